@@ -1,17 +1,17 @@
 # What people run at the top of the repository. `make` prints it.
 
-parts = $(patsubst scripts/check-%,%,$(filter-out %-debian,$(wildcard scripts/check-*)))
+checks = $(patsubst scripts/check-%,%,$(filter-out %-debian,$(wildcard scripts/check-*)))
 
 help: ## print this list
 	@sed -n 's/^\([a-z-]*\):.* ## /  make \1	/p' $(MAKEFILE_LIST) | expand -t 24
-	@echo '  make check-PART       test one of them: $(parts)'
+	@echo '  make check-NAME       test one of them: $(checks)'
 
 check: ## test all packages without the kit, in parallel
 	@rm -rf out/check
-	@$(MAKE) --jobs=$$(nproc) --keep-going --output-sync=target --no-print-directory $(parts:%=check-%) || :
-	@scripts/tally sum $(parts:%=out/check/%.log)
+	@$(MAKE) --jobs=$$(nproc) --keep-going --output-sync=target --no-print-directory $(checks:%=check-%) || :
+	@scripts/tally sum $(checks:%=out/check/%.log)
 
-$(parts:%=check-%): check-%:
+$(checks:%=check-%): check-%:
 	@scripts/check $*
 
 prove: ## prove all crates, reject all mutants and run all tests, with the kit
@@ -36,10 +36,11 @@ PREFIX = /usr/local
 prefix = $(DESTDIR)$(or $(PREFIX),$(error PREFIX is empty))
 install-command: ## install the command, its manual page and completions: make install-command PREFIX=..
 	@# Cargo builds a copy: in the clone of a user it would leave files of root.
-	@copy=$$(mktemp -d) && trap 'rm -rf "$$copy"' EXIT && mkdir "$$copy/rust" "$$copy/command" && \
+	@umask 022 && copy=$$(mktemp -d) && trap 'rm -rf "$$copy"' EXIT && mkdir "$$copy/rust" "$$copy/command" && \
 	    cp -R rust/Cargo.toml rust/README.md rust/src "$$copy/rust" && cp -R command/Cargo.toml command/src "$$copy/command" && \
 	    cargo install --quiet --force --no-track --path "$$copy/command" --root '$(prefix)'
-	cp -R command/share '$(prefix)'
+	(cd command && find share -type f) | while read -r file; do \
+	    install -D -m 644 command/"$$file" '$(prefix)'/"$$file" || exit; done
 
 uninstall-command: ## remove what install-command has installed: make uninstall-command PREFIX=..
 	rm -f '$(prefix)/bin/base62' '$(prefix)/bin/base62_cli'
@@ -57,5 +58,5 @@ setup-full: ## install also browsers, Wine, cross compilers, emulators and prove
 check-debian: ## try README's lines in a bare Debian, as root: make check-debian SUITE=trixie
 	scripts/check-debian '$(SUITE)'
 
-.PHONY: help check $(parts:%=check-%) prove prove-c generate bench version install-command uninstall-command dist setup setup-full \
+.PHONY: help check $(checks:%=check-%) prove prove-c generate bench version install-command uninstall-command dist setup setup-full \
     check-debian

@@ -128,13 +128,13 @@ function joinLongParts(high, middle, low) {
 }
 
 export function bigIntOfWords() {
-  if ((words[2] | words[3]) === 0) return halves[0];
+  if (words[2] === 0 && words[3] === 0) return halves[0];
   return (halves[1] << 64n) | halves[0];
 }
 
 // Returns -1 if the number is above 2**53 - 1.
 export function integerOfWords() {
-  if ((words[2] | words[3] | (words[1] >>> 21)) !== 0) return -1;
+  if (words[3] !== 0 || words[2] !== 0 || words[1] >= 2 ** 21) return -1;
   return words[1] * TWO_TO_32 + words[0];
 }
 

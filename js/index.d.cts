@@ -50,10 +50,7 @@ export function encodeKey(value: Integer | Uuid): string;
 
 /**
  * Like {@link encode}, but encodes a UUID, read as a big-endian 128-bit integer.
- * @param uuid a string or 16 bytes, as {@link Uuid} says
- * @param alphabet by default {@link Alphabet.standard}
  * @returns 1 to 22 characters, without leading zeros
- * @throws {TypeError} if an argument has another type
  * @throws {Base62Error} `INVALID_UUID` for any other string or bytes
  * @example console.log(encodeUuid('017f22e2-79b0-7cc3-98c4-dc0c0c07398f')); // 2p5oQZoHTv0zeY5yG21K3
  */
@@ -83,10 +80,7 @@ export function decode(text: EncodedString, alphabet?: Alphabet): bigint;
 
 /**
  * Like {@link decode}, but returns a `number`.
- * @param text the string
- * @param alphabet by default {@link Alphabet.standard}
  * @returns a number from 0 to 2 ** 53 - 1
- * @throws {TypeError} if an argument has another type
  * @throws {Base62Error} the codes of {@link decode}; `UNSAFE_INTEGER` for 2 ** 53 or more
  * @example console.log(decodeNumber('00LZ')); // 1337
  */
@@ -94,10 +88,7 @@ export function decodeNumber(text: EncodedString, alphabet?: Alphabet): number;
 
 /**
  * Like {@link decode}, but accepts only the strings that {@link encode} returns.
- * @param text the string
- * @param alphabet by default {@link Alphabet.standard}
  * @returns a number from 0n to 2n ** 128n - 1n
- * @throws {TypeError} if an argument has another type
  * @throws {Base62Error} the codes of {@link decode}; `NOT_CANONICAL` for a leading zero
  * @example console.log(decodeCanonical('LZ')); // 1337n
  */
@@ -105,10 +96,7 @@ export function decodeCanonical(text: EncodedString, alphabet?: Alphabet): bigin
 
 /**
  * Like {@link decodeCanonical}, but returns a `number`.
- * @param text the string
- * @param alphabet by default {@link Alphabet.standard}
  * @returns a number from 0 to 2 ** 53 - 1
- * @throws {TypeError} if an argument has another type
  * @throws {Base62Error} the codes of {@link decodeCanonical}; `UNSAFE_INTEGER` for 2 ** 53 or more
  * @example console.log(decodeNumberCanonical('LZ')); // 1337
  */
@@ -116,11 +104,8 @@ export function decodeNumberCanonical(text: EncodedString, alphabet?: Alphabet):
 
 /**
  * Like {@link decode}, but accepts only the strings that {@link encodeFixed} returns for this width.
- * @param text the string
  * @param width an integer from 0 to 2 ** 53 - 1
- * @param alphabet by default {@link Alphabet.standard}
  * @returns a number from 0n to 2n ** 128n - 1n
- * @throws {TypeError} if an argument has another type
  * @throws {Base62Error} `OUT_OF_RANGE` for any other width; `WRONG_LENGTH` for any other number of bytes; then the codes
  *   of {@link decode}
  * @example console.log(decodeFixed('00LZ', 4)); // 1337n
@@ -129,21 +114,15 @@ export function decodeFixed(text: EncodedString, width: number, alphabet?: Alpha
 
 /**
  * Like {@link decodeFixed}, but returns a `number`.
- * @param text the string
- * @param width an integer from 0 to 2 ** 53 - 1
- * @param alphabet by default {@link Alphabet.standard}
  * @returns a number from 0 to 2 ** 53 - 1
- * @throws {TypeError} if an argument has another type
  * @throws {Base62Error} the codes of {@link decodeFixed}; `UNSAFE_INTEGER` for 2 ** 53 or more
  * @example console.log(decodeNumberFixed('00LZ', 4)); // 1337
  */
 export function decodeNumberFixed(text: EncodedString, width: number, alphabet?: Alphabet): number;
 
 /**
- * Decodes a key: accepts only the strings that {@link encodeKey} returns.
- * @param text the key
+ * Like {@link decode}, but decodes a key: accepts only the strings that {@link encodeKey} returns.
  * @returns a number from 0n to 2n ** 128n - 1n
- * @throws {TypeError} if the argument has another type
  * @throws {Base62Error} `WRONG_LENGTH` for any other number of bytes; then the codes of {@link decode}
  * @example console.log(decodeKey('00000000000000000000LZ')); // 1337n
  */
@@ -151,10 +130,7 @@ export function decodeKey(text: EncodedString): bigint;
 
 /**
  * Like {@link decode}, but returns the UUID of the number. Each number has one.
- * @param text the string
- * @param alphabet by default {@link Alphabet.standard}
  * @returns the UUID, in lowercase with hyphens
- * @throws {TypeError} if an argument has another type
  * @throws {Base62Error} the codes of {@link decode}
  * @example console.log(decodeUuid('2p5oQZoHTv0zeY5yG21K3')); // 017f22e2-79b0-7cc3-98c4-dc0c0c07398f
  */
@@ -162,10 +138,7 @@ export function decodeUuid(text: EncodedString, alphabet?: Alphabet): string;
 
 /**
  * Like {@link decodeCanonical}, but returns a UUID: accepts only the strings that {@link encodeUuid} returns.
- * @param text the string
- * @param alphabet by default {@link Alphabet.standard}
  * @returns the UUID, in lowercase with hyphens
- * @throws {TypeError} if an argument has another type
  * @throws {Base62Error} the codes of {@link decodeCanonical}
  * @example console.log(decodeUuidCanonical('2p5oQZoHTv0zeY5yG21K3')); // 017f22e2-79b0-7cc3-98c4-dc0c0c07398f
  */
@@ -173,11 +146,7 @@ export function decodeUuidCanonical(text: EncodedString, alphabet?: Alphabet): s
 
 /**
  * Like {@link decodeFixed}, but returns a UUID.
- * @param text the string
- * @param width an integer from 0 to 2 ** 53 - 1
- * @param alphabet by default {@link Alphabet.standard}
  * @returns the UUID, in lowercase with hyphens
- * @throws {TypeError} if an argument has another type
  * @throws {Base62Error} the codes of {@link decodeFixed}
  * @example console.log(decodeUuidFixed('02p5oQZoHTv0zeY5yG21K3', 22)); // 017f22e2-79b0-7cc3-98c4-dc0c0c07398f
  */
@@ -185,9 +154,7 @@ export function decodeUuidFixed(text: EncodedString, width: number, alphabet?: A
 
 /**
  * Like {@link decodeKey}, but returns a UUID.
- * @param text the key
  * @returns the UUID, in lowercase with hyphens
- * @throws {TypeError} if the argument has another type
  * @throws {Base62Error} the codes of {@link decodeKey}
  * @example console.log(decodeUuidKey('02p5oQZoHTv0zeY5yG21K3')); // 017f22e2-79b0-7cc3-98c4-dc0c0c07398f
  */
@@ -209,9 +176,7 @@ export function prefixRange(prefix: EncodedString, width: number, alphabet?: Alp
 
 /**
  * Like {@link prefixRange}, but for keys: a width of 22 and the standard alphabet.
- * @param prefix the prefix, which may be empty
  * @returns both numbers, or null if there are none
- * @throws {TypeError} if the argument has another type
  * @throws {Base62Error} `INVALID_BYTE` if a byte is not in the alphabet
  * @example console.log(keyRange('00000000000000000000L')); // [ 1302n, 1363n ]
  */
@@ -220,9 +185,7 @@ export function keyRange(prefix: EncodedString): [least: bigint, greatest: bigin
 /**
  * Like {@link keyRange}, but returns the keys of both numbers, as bounds for `BETWEEN` in a database column that
  * compares byte by byte: `COLLATE "C"` in PostgreSQL, `BINARY` in SQLite.
- * @param prefix the prefix, which may be empty
  * @returns both keys, or null if there are none
- * @throws {TypeError} if the argument has another type
  * @throws {Base62Error} `INVALID_BYTE` if a byte is not in the alphabet
  * @example console.log(keyBounds('00000000000000000000L')); // [ '00000000000000000000L0', '00000000000000000000Lz' ]
  */

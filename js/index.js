@@ -4,14 +4,31 @@
 // The public functions, which index.d.cts describes. The default export has all of them, as in Node.
 import {bigIntOfWords, integerOfWords, splitBigInt, splitInteger, splitWords, stringOfGroups, TWO_TO_128} from './digits.js';
 import {Base62Error, checkCanonical, countZeros, decodeFixedText, decodeText, defineReadOnly, hintFor, indexOfInvalid, invalidByte, isUint8Array, lengthOf, lengthOfText, MAX_DIGITS, POWERS_OF_62, quantity, readDigits, showByte, useDigits, wrongType} from './strings.js';
-import {readUuid, readUuidBytes, uuidOfWords} from './uuid.js';
+import {readUuidBytes, readUuidString, uuidOfWords} from './uuid.js';
 
 const KEY_LENGTH = 22;
 
-// What each alphabet has for its characters:
-// - `digits`: the digit of each code, as in strings.js
-// - `pairs`: the codes of the two characters of each number below 62**2, the first in the low byte
+// The digits and the pairs of each alphabet.
 const tables = new WeakMap();
+
+// The digit of each code, as in strings.js. The characters are 62 of ASCII.
+function createDigits(characters) {
+  const digits = new Float64Array(129).fill(Infinity);
+  for (let digit = 0; digit < 62; digit++) {
+    const code = characters.charCodeAt(digit);
+    if (digits[code] < 62)
+      throw new Base62Error(`Alphabet repeats the ${showByte(code, digit)}`, 'REPEATED_CHARACTER', code, digit);
+    digits[code] = digit;
+  }
+  return digits;
+}
+
+// The codes of the two characters of each number below 62**2, the first in the low byte.
+function createPairs(characters) {
+  const pairs = new Uint16Array(62 ** 2);
+  for (let i = 0; i < 62 ** 2; i++) pairs[i] = characters.charCodeAt(i / 62) | (characters.charCodeAt(i % 62) << 8);
+  return pairs;
+}
 
 class Alphabet {
   constructor(characters) {
@@ -20,16 +37,7 @@ class Alphabet {
     let wrong = length !== 62 && `has ${quantity(length, 'character')}, not 62`;
     if (/[^\0-\x7f]/.test(characters)) wrong = 'has a non-ASCII character';
     if (wrong) throw new Base62Error(`the alphabet ${wrong}`, 'INVALID_ALPHABET');
-    const digits = new Float64Array(129).fill(Infinity);
-    for (let digit = 0; digit < 62; digit++) {
-      const code = characters.charCodeAt(digit);
-      if (digits[code] < 62)
-        throw new Base62Error(`Alphabet repeats the ${showByte(code, digit)}`, 'REPEATED_CHARACTER', code, digit);
-      digits[code] = digit;
-    }
-    const pairs = new Uint16Array(62 ** 2);
-    for (let i = 0; i < 62 ** 2; i++) pairs[i] = characters.charCodeAt(i / 62) | (characters.charCodeAt(i % 62) << 8);
-    tables.set(this, { digits, pairs });
+    tables.set(this, { digits: createDigits(characters), pairs: createPairs(characters) });
     defineReadOnly(this, 'characters', characters);
   }
 }
@@ -87,7 +95,7 @@ function splitNumber(number) {
 
 function splitUuid(uuid, mayBeNumber = false) {
   if (typeof uuid === 'string') {
-    if (!readUuid(uuid)) throw invalidUuid(mayBeNumber ? hintFor(uuid, true) : '');
+    if (!readUuidString(uuid)) throw invalidUuid(mayBeNumber ? hintFor(uuid, true) : '');
   } else {
     if (!isUint8Array(uuid)) throw wrongType('a UUID is a string or a Uint8Array', uuid);
     if (lengthOf.call(uuid) !== 16) throw invalidUuid();

@@ -7,8 +7,8 @@ import {bigIntOfWords, joinParts, TWO_TO_128} from './digits.js';
 import {charCodeAt} from './uuid.js';
 
 export const MAX_DIGITS = 22;
-export const POWERS_OF_62 = [1n];
-for (let i = 0; i < MAX_DIGITS; i++) POWERS_OF_62.push(POWERS_OF_62[i] * 62n);
+export const POWERS_OF_62 =
+  Array(MAX_DIGITS).fill(62n).reduce((powers, base, i) => [...powers, powers[i] * base], [1n]);
 
 // Descriptors inherit nothing, since a program may give Object.prototype a property such as `get`. An assignment would
 // fail if it had a read-only `code`.
@@ -40,7 +40,7 @@ export function showByte(byte, index) {
 }
 
 // The end of an error for the string of a UUID or, in the place of a number, of decimal digits. In a bundle of `encode`
-// alone this regular expression is smaller than readUuid.
+// alone this regular expression is smaller than readUuidString.
 const UUID = /^[\da-f]{8}(-?)([\da-f]{4}\1){3}[\da-f]{12}$/i;
 export function hintFor(given, isForNumber) {
   if (typeof given !== 'string') return '';

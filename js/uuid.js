@@ -8,9 +8,12 @@ import {words} from './digits.js';
 // is found once, and common paths read the length of '' + text, which V8 knows to be a string.
 export const charCodeAt = ''.charCodeAt.call.bind(''.charCodeAt);
 
-// The value of each hexadecimal digit by its code, and -1 for any other code, as the last element.
-const HEX_VALUES = new Int8Array(129).fill(-1);
-for (let i = 0; i < 22; i++) HEX_VALUES['0123456789abcdefABCDEF'.charCodeAt(i)] = i < 16 ? i : i - 6;
+// The value of each hexadecimal digit by its code, and for any other code, as the last element, a number that makes each sum
+// in readHex negative.
+const HEX_VALUES = Int32Array.from({ length: 129 }, (_, code) => {
+  const value = '0123456789abcdef'.indexOf(String.fromCharCode(code).toLowerCase());
+  return value < 0 ? -(2 ** 16) : value;
+});
 const HEX = Uint8Array.from('0123456789abcdef', (digit) => digit.charCodeAt(0));
 
 // Returns the value of four digits, or a negative number if one is invalid.
@@ -18,38 +21,41 @@ function readHex(string, start) {
   const a = HEX_VALUES[Math.min(charCodeAt(string, start), 128)];
   const b = HEX_VALUES[Math.min(charCodeAt(string, start + 1), 128)];
   const c = HEX_VALUES[Math.min(charCodeAt(string, start + 2), 128)];
-  return (a << 12) | (b << 8) | (c << 4) | HEX_VALUES[Math.min(charCodeAt(string, start + 3), 128)];
+  return (a << 12) + (b << 8) + (c << 4) + HEX_VALUES[Math.min(charCodeAt(string, start + 3), 128)];
 }
 
 const HYPHEN = 45;
-const hasHyphens = (string) => charCodeAt(string, 8) === HYPHEN && charCodeAt(string, 13) === HYPHEN &&
-  charCodeAt(string, 18) === HYPHEN && charCodeAt(string, 23) === HYPHEN;
+const hasHyphens = (string, start) => charCodeAt(string, start + 8) === HYPHEN &&
+  charCodeAt(string, start + 13) === HYPHEN && charCodeAt(string, start + 18) === HYPHEN &&
+  charCodeAt(string, start + 23) === HYPHEN;
 
-// Writes the words of a UUID, with hyphens or without. Returns whether the string is one.
-function readPlainUuid(string) {
-  const length = ('' + string).length;
+// Writes the words of a UUID, with hyphens or without. Returns whether so many characters from `start` on are one.
+function readUuid(string, start, length) {
   const hyphen = length === 36 ? 1 : 0;
-  if (hyphen ? !hasHyphens(string) : length !== 32) return false;
-  const a = readHex(string, 0);
-  const b = readHex(string, 4);
-  const c = readHex(string, 8 + hyphen);
-  const d = readHex(string, 12 + 2 * hyphen);
-  const e = readHex(string, 16 + 3 * hyphen);
-  const f = readHex(string, 20 + 4 * hyphen);
-  const g = readHex(string, 24 + 4 * hyphen);
-  const h = readHex(string, 28 + 4 * hyphen);
+  if (hyphen ? !hasHyphens(string, start) : length !== 32) return false;
+  const a = readHex(string, start);
+  const b = readHex(string, start + 4);
+  const c = readHex(string, start + 8 + hyphen);
+  const d = readHex(string, start + 12 + 2 * hyphen);
+  const e = readHex(string, start + 16 + 3 * hyphen);
+  const f = readHex(string, start + 20 + 4 * hyphen);
+  const g = readHex(string, start + 24 + 4 * hyphen);
+  const h = readHex(string, start + 28 + 4 * hyphen);
+  if (a < 0 || b < 0 || c < 0 || d < 0 || e < 0 || f < 0 || g < 0 || h < 0) return false;
   words[3] = (a << 16) | b;
   words[2] = (c << 16) | d;
   words[1] = (e << 16) | f;
   words[0] = (g << 16) | h;
-  return (a | b | c | d | e | f | g | h) >= 0;
+  return true;
 }
 
-// It may also be in braces or after urn:uuid:.
-export function readUuid(string) {
-  if (readPlainUuid(string)) return true;
-  if (string.startsWith('{') && string.endsWith('}')) return readPlainUuid(string.slice(1, -1));
-  return string.slice(0, 9).toLowerCase() === 'urn:uuid:' && readPlainUuid(string.slice(9));
+// The UUID may also be in braces or after urn:uuid:.
+export function readUuidString(string) {
+  const length = ('' + string).length;
+  if (length <= 36 && readUuid(string, 0, length)) return true;
+  if (length < 34) return false;
+  if (charCodeAt(string, 0) === 123 && charCodeAt(string, length - 1) === 125) return readUuid(string, 1, length - 2);
+  return string.slice(0, 9).toLowerCase() === 'urn:uuid:' && readUuid(string, 9, length - 9);
 }
 
 export function readUuidBytes(bytes) {

@@ -121,17 +121,13 @@ with_postgresql() {
     pg_virtualenv -t -c "--port=$((10000 + $$ % 20000))" "${options[@]}" "$@"
 }
 
-# THING. What is wrong with it, if it is here and too old.
-too_old() {
-    ! [[ $1 = cargo && $(command -v cargo) ]] || echo " ($(version_of cargo) is too old: $oldest_rust or later)"
-}
-
 # WHAT THING.. Says what is left out for lack of them, and the command that brings them. Under CI the check ends here.
 skip() {
     local thing command='make setup' wanted=()
     for thing in "${@:2}"; do
         [[ " ${optional[*]} " != *" $thing "* ]] || command='make setup-full'
-        wanted+=("${packages[$thing]-$thing}$(too_old "$thing")")
+        wanted+=("${packages[$thing]-$thing}")
+        [[ $thing != cargo || ! $(command -v cargo) ]] || wanted[-1]+=" ($(version_of cargo) is too old: $oldest_rust or later)"
     done
     echo "left out: $1: $command installs ${wanted[*]}"
     [[ ! ${CI-} ]] || exit 1

@@ -5,13 +5,11 @@ libdir = $(prefix)/lib
 CFLAGS = -O2
 PYTHON = python3
 
-# The library is in the folder above in an archive of these functions, and in c/ of the repository.
-library := $(dir $(firstword $(wildcard ../base62.c ../../c/base62.c)))
-sources = functions.c $(library)base62.c
+sources = functions.c ../../c/base62.c
 
 all: $(MODULE)
 
-$(MODULE): $(sources) ../common.h $(library)base62.h
+$(MODULE): $(sources) ../common.h ../../c/base62.h
 
 install: $(MODULE)
 	mkdir -p '$(folder)' '$(DESTDIR)$(docdir)'
@@ -24,6 +22,6 @@ uninstall:
 
 check: tested = $(CURDIR)/$(MODULE)
 check: $(MODULE)
-installcheck: tested = $(abspath $(folder)/$(MODULE))
+installcheck: tested = $(folder)/$(MODULE)
 
 .PHONY: all install uninstall check installcheck clean

@@ -9,7 +9,6 @@ values that are known from outside. A result is a word and its numbers, as in th
 
 import hashlib
 import itertools
-import sys
 import uuid
 from collections.abc import Iterator
 from pathlib import Path
@@ -262,9 +261,7 @@ KNOWN_EXACT: list[tuple[int, bytes, Result]] = [
     (23, b"07n42DGM5Tflk9n8mt7Fhc7", ("number", LARGEST)),
     (100, b"0" * 98 + b"LZ", ("number", 1337)),
     # Modulo 256 or 2^32 these widths are the length.
-    (258, b"LZ", ("length",)),
-    (2**32 + 2, b"LZ", ("length",)),
-    (2**64 - 1, b"LZ", ("length",)),
+    *((width, b"LZ", ("length",)) for width in (258, 2**32 + 2, 2**64 - 1)),
 ]
 LEAST_OF_7 = 305719766687397141968255334843504656384
 KNOWN_RANGES: list[tuple[int, bytes, Result]] = [
@@ -274,12 +271,8 @@ KNOWN_RANGES: list[tuple[int, bytes, Result]] = [
     (22, b"00000000000000000000LZ", ("numbers", 1337, 1337)),
     (22, b"7", ("numbers", LEAST_OF_7, LARGEST)),
     (22, b"7n", ("numbers", 340236514539200045093703517809706795008, LARGEST)),
-    (22, b"7o", ("none",)),
-    (22, b"8", ("none",)),
-    # Both factors of its least number are 2^64 or more.
-    (22, b"LygHa16AHYG", ("none",)),
-    (22, b"7n42DGM5Tflk9n8mt7Fhc8", ("none",)),
-    (22, b"0" * 23, ("none",)),
+    # Both factors of the least number of the third prefix are 2^64 or more.
+    *((KEY, prefix, ("none",)) for prefix in (b"7o", b"8", b"LygHa16AHYG", b"7n42DGM5Tflk9n8mt7Fhc8", b"0" * 23)),
     (22, b"0-!", ("byte", 45, 1)),
     (22, b"7o!", ("byte", 33, 2)),
     (22, b"0" * 23 + b"!", ("byte", 33, 23)),
@@ -288,8 +281,7 @@ KNOWN_RANGES: list[tuple[int, bytes, Result]] = [
     (22, b"zzzzzzzzzzzzzzzzzzzzz!", ("byte", 33, 21)),
     (30, b"z" * 23, ("none",)),
     (30, b"!" + b"z" * 22, ("byte", 33, 0)),
-    (0, b"", ("none",)),
-    (0, b"0", ("none",)),
+    *((0, prefix, ("none",)) for prefix in (b"", b"0")),
     (0, b"!", ("byte", 33, 0)),
     (1, b"", ("numbers", 0, 61)),
     (1, b"z", ("numbers", 61, 61)),
@@ -310,8 +302,7 @@ KNOWN_RANGES: list[tuple[int, bytes, Result]] = [
     (23, b"1", ("none",)),
     (100, b"0" * 98 + b"LZ", ("numbers", 1337, 1337)),
     (100, b"0" * 78 + b"7", ("numbers", LEAST_OF_7, LARGEST)),
-    (100, b"0" * 78 + b"8", ("none",)),
-    (100, b"1", ("none",)),
+    *((100, prefix, ("none",)) for prefix in (b"0" * 78 + b"8", b"1")),
     (2**32 - 1, b"0" * 30, ("numbers", 0, LARGEST)),
     (2**32 - 1, b"0" * 30 + b"1", ("none",)),
 ]
@@ -484,11 +475,6 @@ def prefixes() -> Iterator[tuple[int, bytes]]:
 # The rows
 
 
-def rows_of_alphabets() -> Iterator[Row]:
-    for name, letters in LETTERS.items():
-        yield "alphabet", name, letters, int(letters.isascii()), int(sorted(letters) == [*letters])
-
-
 def rows_of_repeats() -> Iterator[tuple[str, bytes, int, int]]:
     """Letters of which one is repeated at each index."""
     chosen = [b"a" * 62, b"\0" * 62, bytes(range(31)) * 2, STANDARD[:-2] + b"zz"]
@@ -579,7 +565,8 @@ def rows_of_hints() -> Iterator[Row]:
 
 
 def rows() -> Iterator[Row]:
-    yield from rows_of_alphabets()
+    for name, letters in LETTERS.items():
+        yield "alphabet", name, letters, int(letters.isascii()), int(sorted(letters) == [*letters])
     yield from rows_of_repeats()
     for alphabet in LETTERS:
         step = {"standard": 1, "alternative": 2}.get(alphabet, 7)
@@ -601,8 +588,6 @@ def field(value: str | int | bytes) -> str:
 
 
 def main() -> None:
-    if sys.argv[1:]:
-        raise SystemExit(__doc__)
     lines = dict.fromkeys("\t".join(map(field, row)) for row in rows())
     Path(__file__).with_name("values.tsv").write_bytes((HEAD + "".join(f"{line}\n" for line in lines)).encode())
 

@@ -52,7 +52,8 @@ def functions_of(path: str) -> set[str]:
 
 def exported() -> dict[str, set[str]]:
     """The names by the languages of the page."""
-    rust = re.findall(r"\w+", "".join(re.findall(r"\npub (?:use (?:\w+::)+)?([^;]*;)", text("rust/src/lib.rs"))))
+    rust = text("rust/src/lib.rs", "rust/src/generated/mod.rs")
+    rust = re.findall(r"\w+", "".join(re.findall(r"\npub (?:use (?:\w+::)+)?([^;]*;)", rust)))
     c = re.findall(r"\b(base62_\w+)\(", re.sub(r"(?s)/\*.*?\*/", "", text("c/base62.h")))
     python = re.findall(
         r"(?m)^(?:def |class |(?=\w+ = ))([A-Za-z]\w*)", text("python/base62/_base62.pyi", "python/base62/__init__.py")
@@ -65,7 +66,7 @@ def exported() -> dict[str, set[str]]:
         "JavaScript": set(re.findall(r"\w+", javascript)),
         "SQLite": functions_of("sql/sqlite/functions.c"),
         "DuckDB": functions_of("sql/duckdb/functions.c"),
-        "PostgreSQL": set(re.findall(r"CREATE FUNCTION (\w+)", text("sql/postgresql/*.sql"))),
+        "PostgreSQL": set(re.findall(r"(?:CREATE FUNCTION |\(')(base62_\w+)", text("sql/postgresql/*.sql"))),
     }
 
 
@@ -79,16 +80,11 @@ def names_in(*cells: str) -> set[str]:
     return set(re.findall(r"`([\w.]+)[`(]", " ".join(cells)))
 
 
-def columns_of(path: str, head: str) -> dict[str, set[str]]:
-    """The names in each column, but the first, of the table that begins with this field."""
-    _, *columns = zip(*rows_of(path, head))
-    return {title: names_in(*cells) for title, *cells in columns}
-
-
 def listed_sql() -> dict[str, set[str]]:
     """The names of sql/README by database: of its encoders and decoders with each part that the database has in place of
     _uuid, of the variants of decoders, and of the other functions, which are in all unless one is named."""
-    kinds, (titles, *parts) = columns_of("sql/README.md", "strings"), rows_of("sql/README.md", "part")
+    kinds = {title: names_in(*cells) for title, *cells in zip(*rows_of("sql/README.md", "strings"))}
+    titles, *parts = rows_of("sql/README.md", "part")
     lists: dict[str, set[str]] = {database: set() for database in titles[1:]}
     (variant,) = re.findall(r"Each decoder has a variant with `(\w+)`", text("sql/README.md"))
     for part, *cells in parts:

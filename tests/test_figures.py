@@ -2,8 +2,6 @@
 """Compares the figures of pages with what is computed here: lengths and uses of encodings, the oldest versions of other
 software, and the years in which a UUID of version 7 has a shortest string of 21 characters."""
 
-import csv
-import io
 import re
 from datetime import datetime, timedelta
 from pathlib import Path
@@ -43,9 +41,8 @@ def length(base: int, number: int) -> int:
 
 def says(characters: str) -> list[str]:
     """The cells of an alphabet."""
-    written = io.StringIO()
-    csv.writer(written).writerow([characters])
-    is_plain = quote(characters, safe="") == written.getvalue().strip() == characters
+    # What a URL has as it is, a file name and CSV have too.
+    is_plain = quote(characters, safe="") == characters
     lengths = ", ".join(str(length(len(characters), 2**bits - 1)) for bits in (32, 64, 128))
     answers = [[*characters] == sorted(characters), len({*characters.lower()}) == len(characters)]
     # What begins with a hyphen is an option of a command.

@@ -28,12 +28,10 @@ if(base62_is_top)
     set(base62_pages "${CMAKE_INSTALL_DOCDIR}")
 endif()
 install(FILES LICENSE README.md DESTINATION "${base62_pages}")
-# In the repository of the project it is one folder above.
-set(base62_changes CHANGELOG.md)
+# A copy of this folder alone may lie beside the changes of another project.
 if(EXISTS "${CMAKE_CURRENT_SOURCE_DIR}/../tests/values.tsv")
-    set(base62_changes ../CHANGELOG.md)
+    install(FILES ../CHANGELOG.md DESTINATION "${base62_pages}")
 endif()
-install(FILES ${base62_changes} DESTINATION "${base62_pages}" OPTIONAL)
 
 if(base62_is_top)
     string(TOLOWER "${CMAKE_SYSTEM_NAME}-${CMAKE_SYSTEM_PROCESSOR}" CPACK_SYSTEM_NAME)

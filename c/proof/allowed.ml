@@ -115,19 +115,13 @@ let step p a = match a.term_node with
     (match op with PlusA -> Some 1 | MinusA -> Some (-1) | _ -> None)
   | _ -> None
 
-(* The calls of a definition within its own body, each with its arguments. Any other definition that it uses stands
+(* The calls of a definition within its own body, each with its arguments. Frama-C rejects any use of one that does not stand
    before it. *)
-class body_of info before = object (self)
+class body_of info = object (self)
   inherit Visitor.frama_c_inplace
   val mutable calls = []
-  val mutable unknown = []
   method calls = calls
-  method unknown = unknown
-  method private call f args =
-    let used = f.l_var_info in
-    if used.lv_id = info.l_var_info.lv_id then calls <- args :: calls
-    else if not (Hashtbl.mem before used.lv_id || Logic_env.is_builtin_logic_function used.lv_name)
-    then unknown <- used.lv_name :: unknown
+  method private call f args = if f.l_var_info.lv_id = info.l_var_info.lv_id then calls <- args :: calls
   method! vterm_node n =
     (match n with
       | Tapp (f, _, args) -> self#call f args
@@ -154,24 +148,21 @@ let ends info calls_of = match info.l_body with
       | _ -> false)
   | _ -> false
 
-let defined_before = Hashtbl.create 100
+let endless_definition = "a recursive definition, and nothing shows that it ends"
 
 (* What is wrong with a definition. *)
 let definition info =
-  let body = new body_of info defined_before in
-  let visit = (body :> Visitor.frama_c_visitor) in
-  let wrong = match info.l_body with
-    | LBterm t -> ignore (Visitor.visitFramacTerm visit t); []
-    | LBpred p -> ignore (Visitor.visitFramacPredicate visit p); []
-    | LBinductive _ | LBreads _ | LBnone -> [ "a definition without a body" ] in
-  let calls_of t =
-    let part = new body_of info defined_before in
-    ignore (Visitor.visitFramacTerm (part :> Visitor.frama_c_visitor) t);
-    part#calls in
-  let is_endless = body#calls <> [] && not (ends info calls_of) in
-  Hashtbl.replace defined_before info.l_var_info.lv_id ();
-  wrong @ List.map (fun name -> "it uses a definition that does not stand before it, " ^ name) body#unknown
-  @ if is_endless then [ "a recursive definition, and nothing shows that it ends" ] else []
+  let calls_in visit part =
+    let body = new body_of info in
+    ignore (visit (body :> Visitor.frama_c_visitor) part);
+    body#calls in
+  let calls_of = calls_in Visitor.visitFramacTerm in
+  let is_endless calls = calls <> [] && not (ends info calls_of) in
+  match info.l_body with
+  | LBinductive _ | LBreads _ | LBnone -> [ "a definition without a body" ]
+  | LBterm t when is_endless (calls_of t) -> [ endless_definition ]
+  | LBpred p when is_endless (calls_in Visitor.visitFramacPredicate p) -> [ endless_definition ]
+  | LBterm _ | LBpred _ -> []
 
 (* -------------------- Axioms: a query of SMT-LIB for each -------------------- *)
 

@@ -51,38 +51,25 @@ size_t index_again(base62_bad_byte bad) {
 }
 
 /* The text of a status, by its length and its first and last byte. One that names the bad byte goes on from a start. */
+#define LENGTH(n) (\result == 0 ? size < n : \result == n)
 #define TEXT_OF(of, n, first, last) \
-    (\result > 0 && status == of ==> \result == n && buffer[0] == first && buffer[n - 1] == last)
+    (status == of ==> LENGTH(n) && (\result > 0 ==> buffer[0] == first && buffer[n - 1] == last))
 #define NAMED(start) (start + 18 + escape_length(bad.byte) + decimal_length(bad.index))
 #define TEXT_THAT_NAMES(of, start, first) \
-    (\result > 0 && status == of ==> \result == NAMED(start) && buffer[0] == first && buffer[start - 1] == ' ' \
-    && buffer[start] == 'b' && buffer[start + 6] == '\'' && buffer[start + 7 + escape_length(bad.byte)] == '\'' \
-    && buffer[start + 17 + escape_length(bad.byte)] == ' ' \
+    (status == of ==> LENGTH(NAMED(start))) && (\result > 0 && status == of ==> \
+    buffer[0] == first && buffer[start - 1] == ' ' && buffer[start] == 'b' && buffer[start + 6] == '\'' \
+    && buffer[start + 7 + escape_length(bad.byte)] == '\'' && buffer[start + 17 + escape_length(bad.byte)] == ' ' \
     && (\forall integer i; 0 <= i < escape_length(bad.byte) ==> buffer[start + 7 + i] == escape_byte(bad.byte, i)) \
     && \forall integer i; 0 <= i < decimal_length(bad.index) ==> \
         buffer[NAMED(start) - decimal_length(bad.index) + i] == decimal_byte(bad.index, i))
 
-// == prove ends_of_texts: with tables
-/*@ assigns \nothing; ensures too_small_text[0] == 'B' && too_small_text[36] == 'r' && empty_text[0] == 'E'
-        && empty_text[31] == 'g' && overflow_text[0] == 'D' && overflow_text[30] == 'e' && no_match_text[0] == 'N'
-        && no_match_text[45] == 'x' && leading_zero_text[0] == 'E' && leading_zero_text[31] == 'o'
-        && wrong_length_text[0] == 'E' && wrong_length_text[42] == 'h' && invalid_uuid_text[0] == 'N'
-        && invalid_uuid_text[9] == 'D' && out_of_range_text[0] == 'N' && out_of_range_text[21] == 'e'
-        && invalid_text[0] == 'E' && invalid_text[34] == ' '
-        && repeated_text[0] == 'A' && repeated_text[20] == ' ' && byte_text[0] == 'b' && byte_text[6] == '\''
-        && index_text[0] == '\'' && index_text[10] == ' ';
-*/
-static void ends_of_texts(void) {}
-
 /* A text is written whole, and nothing behind it, if there is room. 0 and numbers from 11 on have none. */
+// == prove texts_by_example: with tables
 /*@ requires \valid(buffer + (0 .. size - 1));
     assigns buffer[0 .. size - 1];
     ensures longest: \result <= BASE62_MAX_ERROR_MESSAGE;
     ensures roomy: size >= BASE62_MAX_ERROR_MESSAGE && 1 <= status <= 10 ==> \result > 0;
     ensures none: status == 0 || status > 10 ==> \result == 0;
-    ensures rejected: \result == 0 && 1 <= status <= 10 ==> size < (status == 1 ? 37 : status == 2 ? 32
-        : status == 3 ? NAMED(35) : status == 4 ? 31 : status == 5 ? 46 : status == 6 ? NAMED(21) : status == 7 ? 32
-        : status == 8 ? 43 : status == 9 ? 10 : 22);
     ensures stays: \forall integer i; \result <= i < size ==> buffer[i] == \old(buffer[i]);
     ensures too_small: TEXT_OF(1, 37, 'B', 'r');
     ensures empty: TEXT_OF(2, 32, 'E', 'g');
@@ -96,8 +83,6 @@ static void ends_of_texts(void) {}
     ensures out_of_range: TEXT_OF(10, 22, 'N', 'e');
 */
 size_t texts_by_example(base62_status status, base62_bad_byte bad, char *buffer, size_t size) {
-    ends_of_texts();
-    escape(bad.byte);
     compute_decimals(bad.index);
     return base62_error_message(status, bad, buffer, size);
 }

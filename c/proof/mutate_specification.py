@@ -1,20 +1,19 @@
 #!/usr/bin/python3 -B
 """Changes base62.acsl in one place after the other: c/proof/mutate_specification.py [NAME..]
 
-Each change has to leave a law or an example without a proof. OPERATORS says what is exchanged for what, wherever it
+Each mutant has to leave a law or an example without a proof. OPERATORS says what is exchanged for what, wherever it
 stands in a definition or a contract. All laws are tried that name the contract or the definition, or something that
 does. So a new function is tried as soon as a law calls it, and one that no law calls is a failure. If there are names, it
-tries the changes of these contracts and definitions, and there have to be some. With the variable SHARE it tries one change in so many, without those of
-SAME, by the seed SEED.
+tries the mutants of these contracts and definitions, and there have to be some. With the variable SHARE it tries one mutant
+in so many, without those of SAME.
 
-It prints the changes that leave all with a proof, but for those of SAME, and how many it tried. A goal that is false
+It prints the mutants that leave all with a proof, but for those of SAME, and how many it tried. A goal that is false
 uses all of its time. So it has three times as long as the slowest goal of the function takes without a change, and two
-seconds more. A change that Frama-C cannot read is not tried.
+seconds more. A mutant that Frama-C cannot read is not tried.
 """
 
 import os
 import pathlib
-import random
 import re
 import sys
 import tempfile
@@ -51,7 +50,7 @@ CONTRACTS = [
 ]
 POINTER = re.compile("letters|text|prefix|buffer|places|bad|range|BYTES|[A-Z]+_LETTERS")
 
-# Changes after which base62.acsl says no less, by their lines.
+# Mutants of base62.acsl that say no less, by their lines.
 SAME = {
     # It contradicts itself where it says something else: entries tell equal letters apart, 62 letters are not distinct
     # if one is repeated, 64 bits hold no 2^64, no number is 2^128, no byte is 256, two texts at one place are one, and a
@@ -174,7 +173,7 @@ def tried_laws(specification):
     return [(at, name, steps(name)) for at, name in begins]
 
 
-def changes(text):
+def mutants(text):
     """Each changed specification: the contract or definition, the laws to try, the line, and the text."""
     whole = clauses(text)
     conclusions = blanked(whole, r"\b(?:requires|assigns)\b[^;]*;")
@@ -196,7 +195,7 @@ def changes(text):
 
 
 def failing(file, names, limits):
-    """The function that a change leaves without a proof, or that prove rejects it, or that Frama-C cannot read it."""
+    """The function that a mutant leaves without a proof, or that prove rejects it, or that Frama-C cannot read it."""
     logs = []
     try:
         for name in names:
@@ -209,21 +208,18 @@ def failing(file, names, limits):
         return "not read"
 
 
-def chosen_changes(specification, parts):
-    """The changes to try: all, those of these contracts and definitions, or a share."""
-    chosen = [change for name, *change in changes(specification) if not parts or name in parts]
+def chosen_mutants(specification, parts):
+    """The mutants to try: all, those of these contracts and definitions, or a share."""
+    chosen = [mutant for name, *mutant in mutants(specification) if not parts or name in parts]
     if not chosen:
         raise SystemExit(f"base62.acsl has no {' '.join(parts)}")
     share = int(os.environ.get("SHARE", "1"))
-    if share > 1:
-        others = [change for change in chosen if change[1] not in SAME]
-        chosen = random.Random(os.environ.get("SEED", "1")).sample(others, -(-len(others) // share))
-    return chosen
+    return chosen if share == 1 else [mutant for mutant in chosen if mutant[1] not in SAME][::share]
 
 
 def main(parts):
     specification = wp.SPECIFICATION.read_text()
-    chosen = chosen_changes(specification, parts)
+    chosen = chosen_mutants(specification, parts)
     failures = [f"no law calls {name}" for _, name, laws in tried_laws(specification) if name.startswith("base62_") and not laws]
 
     def result(i):
@@ -237,7 +233,7 @@ def main(parts):
 
     with tempfile.TemporaryDirectory() as folder:
         work = pathlib.Path(folder)
-        os.environ.setdefault("CACHE", f"{folder}/cache")  # A change leaves most goals as they are.
+        os.environ.setdefault("CACHE", f"{folder}/cache")  # A mutant leaves most goals as they are.
         unchanged = wp.prepared(work / "unchanged", annotate.laws())
         names = sorted({law for laws, _, _ in chosen for law in laws})
         logs = dict(zip(names, wp.at_once(lambda name: wp.proved(unchanged, name, FAILED), names)))
@@ -247,7 +243,7 @@ def main(parts):
         print("".join(line + "\n" for line in failures), end="", flush=True)
         results = wp.at_once(result, range(len(chosen)))
     tried = len(chosen) - results.count("not read")
-    print(f"{tried} changes, {results.count('')} of them change nothing")
+    print(f"{tried} mutants, {results.count('')} of them change nothing")
     print(f"{max(tried - len(failures), 0)} passed, {len(failures)} failed")
     return 1 if failures else 0
 

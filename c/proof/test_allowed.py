@@ -1,5 +1,5 @@
 #!/usr/bin/python3 -B
-"""Tries changes that would get a false statement accepted, one by one: c/proof/test_allowed.py [TEXTS..]
+"""Tries mutants that would get a false statement accepted, one by one: c/proof/test_allowed.py [TEXTS..]
 
 prove.py has to reject each, with what stands beside it in its table. It prints those that are not rejected so, and how
 many are. It tries those that have one of the texts, if there are any. Each text has to be in a case.
@@ -29,7 +29,7 @@ POINTER, ARRAY = "list: a pointer in a struct, or to a pointer", "more than numb
 # A function, which stands behind those of base62.c, and its contract.
 HERE = """
 
-/* Planted. */
+/* Mutant. */
 
 static size_t here(uint8_t *to, const uint8_t *part, size_t length, base62_status status, const base62_alphabet *all) {
     size_t i = 0;
@@ -37,7 +37,7 @@ static size_t here(uint8_t *to, const uint8_t *part, size_t length, base62_statu
     return i;
 }"""
 CONTRACT = "== contract here\nassigns \\nothing;\n"
-TOP = "== after /* Planted. */\n"
+TOP = "== after /* Mutant. */\n"
 STEP = "== in here before return i;\n"
 NEXT = STEP + "assert first:\n\\true; */ "
 
@@ -46,7 +46,7 @@ def logic(text):
     return f"{TOP}/*@ {text} */"
 
 
-def ghost(body, contract="assigns \\nothing; ensures \\false;", before="", head="void planted(void)"):
+def ghost(body, contract="assigns \\nothing; ensures \\false;", before="", head="void mutant(void)"):
     """A ghost function that would show what is false."""
     return f"{TOP}{before}\n/*@ ghost\n/@ {contract} @/\n{head} {{ {body} }}\n*/"
 
@@ -66,6 +66,7 @@ LISTS = [
         "logic integer f(integer i, integer j) = i < 3 || j < 3 ? f(i + 1, j) + 1 : 0;",
         "logic integer f(integer n, integer z) = n <= z * n ? 0 : f(n - 1, z) + 1;",
         "logic real f(real x) = x <= 0.0 ? 0.0 : f(x - 1.0) + 1.0;")),
+    (logic("logic integer f(integer n) = g(n - 1); logic integer g(integer n) = f(n);"), "unbound logic function g"),
     (logic("axiomatic A { logic integer f(integer n); }"), BODY),
     (logic("inductive p(integer n) { case no: \\forall integer n; p(n) ==> p(n + 1); }"), BODY),
     # An axiom.
@@ -84,24 +85,24 @@ LISTS = [
     (ghost("int i = 0; /@ loop assigns no_wp: i; loop variant 9 - i; @/ while (i < 9) i++;"), NOT_TRIED),
     # A function that does not end.
     (ghost("for (;;) {}"), LOOP), (ghost("here: goto here;"), STATEMENT),
-    (ghost("other();", before="/*@ ghost /@ assigns \\nothing; @/ void planted(void);\n"
-           "/@ assigns \\nothing; @/ void other(void) { planted(); } */"), "it calls itself"),
+    (ghost("other();", before="/*@ ghost /@ assigns \\nothing; @/ void mutant(void);\n"
+           "/@ assigns \\nothing; @/ void other(void) { mutant(); } */"), "it calls itself"),
     (ghost("(*there)();", before="/*@ ghost void (*there)(void); */"), "function pointer"),
     (ghost("while (1) {}", "terminates \\false; assigns \\nothing; ensures \\false;"), CLAUSE),
-    (ghost("planted();", "decreases 0; assigns \\nothing; ensures \\false;"), CLAUSE),
+    (ghost("mutant();", "decreases 0; assigns \\nothing; ensures \\false;"), CLAUSE),
     (ghost("", "assigns \\nothing; exits \\true; ensures \\false;"), CLAUSE),
     (ghost("other();", before="/*@ assigns \\nothing; */ void other(void);"), "Call to non-ghost function"),
     # A line of the preprocessor, and an assertion that is none.
     *((f"{NEXT}{line}\n/*@ assert last: \\true;", "a line for the preprocessor") for line in (
         "\n#if 0\n#endif", "/* */ #define n 1", "\n#line 1 \"other.c\"", "\n%:define n 1", "// Here. \\\n")),
-    (f"{TOP}/*@ ghost /@ assigns \\nothing; ensures \\false; @/ void planted(void); */", "no body: planted"),
+    (f"{TOP}/*@ ghost /@ assigns \\nothing; ensures \\false; @/ void mutant(void); */", "no body: mutant"),
     # A change of the code.
     (f"{NEXT}i++; /*@ assert last: \\true;", CODE), (f"{STEP}assert a: \\true; *B62_MAY_ALIAS/ i++; // */\n/*@ assert b: \\true;", CODE),
     (f"{STEP}ghost return 0;", WARNING), (f"{STEP}ghost i = 1;", "rror"),
     # A contract that is not one.
     ("== contract base62_encode\nrequires size > 100;\nassigns buffer[0 .. size - 1];", "two contracts"),
     ("== contract here\nrequires \\false;", "syntax error"),
-    (ghost("", "assigns \\nothing;", head="__attribute__((pure)) void planted(void)"), "an attribute"),
+    (ghost("", "assigns \\nothing;", head="__attribute__((pure)) void mutant(void)"), "an attribute"),
     (ghost("", "ensures \\true;"), NO_CONTRACT), (ghost("", "behavior only: assumes \\false; assigns \\nothing;"), NO_CONTRACT),
     (ghost("all = 0;", "assigns all;", before="//@ ghost int all;"), "a ghost function that assigns"),
     (ghost("", "assigns \\nothing; allocates \\nothing;"), CLAUSE),
@@ -114,11 +115,11 @@ LISTS = [
     (logic("lemma no: \\forall integer n; n == 2 ==> (integer)(_Bool)n == n;"), "a cast to _Bool"),
     (logic("predicate p(integer n) = \\valid((uint8_t *)n);"), NUMBER), (logic("predicate p(uint8_t *a) = (uintptr_t)a == 0;"), NUMBER),
     (logic("predicate p{L}(char *a) = *a < 128;"), CHAR),
-    (ghost("return *a < 128;", "requires \\valid_read(a); assigns \\nothing;", head="int planted(char *a)"), CHAR),
+    (ghost("return *a < 128;", "requires \\valid_read(a); assigns \\nothing;", head="int mutant(char *a)"), CHAR),
     # A struct with an array that is read whole.
     (f"{STEP}assert here: *all == \\at(*all, Pre);", READ),
     (logic("predicate p{A, B}(base62_alphabet *t) = \\at(t->bytes, A) == \\at(t->bytes, B);"), READ),
-    (ghost("base62_alphabet own = *t;", "requires \\valid_read(t); assigns \\nothing;", head="void planted(base62_alphabet *t)"), READ),
+    (ghost("base62_alphabet own = *t;", "requires \\valid_read(t); assigns \\nothing;", head="void mutant(base62_alphabet *t)"), READ),
 ]
 
 # What the list allows.
@@ -177,7 +178,7 @@ STATEMENTS = [
     ("for (i = 0; i < 3; i++) to[i] = 0;", STATEMENT),
 ]
 
-# Other changes of base62.c: what stands there, what takes its place, and what rejects it.
+# Other mutants of base62.c: what stands there, what takes its place, and what rejects it.
 SOURCES = [
     ("__builtin_clzll(n);", "__builtin_clzll(n | 1);", LINE), ("    //@ assert requires: n != 0;\n", "", LINE),
     (HERE, HERE.replace("uint8_t *to", "uint8_t *B62_RESTRICT to"), "restrict"),
@@ -220,7 +221,7 @@ WRONG = [
 # A program that shows what is false by WP's axiom for an array that is read whole.
 PROGRAM = """struct all { unsigned char bytes[318]; };
 /*@ requires \\valid(s) && s->bytes[5] == 0; assigns *s; */
-void planted(struct all *s) {
+void mutant(struct all *s) {
     struct all before = *s;
     s->bytes[5] = 1;
     struct all after = *s;
@@ -233,7 +234,7 @@ void planted(struct all *s) {
 # A variable to which a pointer of the caller may point.
 OTHER = """unsigned char my_part;
 /*@ requires \\valid(p); assigns *p, my_part; ensures my_part == 1 && *p == 2; */
-void planted(unsigned char *p) { my_part = 1; *p = 2; }
+void mutant(unsigned char *p) { my_part = 1; *p = 2; }
 """
 
 # A requirement that nothing meets.
@@ -242,7 +243,7 @@ NEVER = """#include "base62.acsl"
     assigns \\nothing;
     ensures \\result == 0;
 */
-int planted(const char *p) { return 1; }
+int mutant(const char *p) { return 1; }
 """
 
 
@@ -253,7 +254,7 @@ def once(text, old, new):
 
 
 def cases(work):
-    """Each planted text, what has to be printed, and what prints it in a folder."""
+    """Each mutant text, what has to be printed, and what prints it in a folder."""
     source, laws, specification = wp.CODE.read_bytes().decode(), annotate.laws(), wp.SPECIFICATION.read_text()
     end = source.rindex("\n}\n") + 2
     source = source[:end] + HERE + source[end:]
@@ -275,7 +276,7 @@ def cases(work):
 
     def of_program(at, text):
         file = wp.prepared(at, text)
-        return wp.warnings(wp.proved(file, "planted"), wp.checked(file))
+        return wp.warnings(wp.proved(file, "mutant"), wp.checked(file))
 
     yield "nothing", None, lambda at: of_code(at, source)
     for text in ACCEPTED:
@@ -302,7 +303,7 @@ def cases(work):
     yield "70000", "guaranteed RTE", lambda at: of_goals(at, too_large, "here")
     yield PROGRAM, FALSE, lambda at: of_program(at, PROGRAM)
     yield OTHER, APART, lambda at: of_program(at, OTHER)
-    yield NEVER, "planted_wp_smoke", lambda at: wp.contradictions(wp.prepared(at, NEVER))
+    yield NEVER, "mutant_wp_smoke", lambda at: wp.contradictions(wp.prepared(at, NEVER))
 
 
 def messages(check, folder):

@@ -27,7 +27,7 @@ function(expect_same what names wanted)
     endif()
 endfunction()
 
-file(STRINGS "${HEADER}" lines REGEX "^[a-z0-9_]+ base62_[a-z0-9_]+\\(")
+file(STRINGS "${HEADER}" lines REGEX "^(BASE62_API |BASE62_CHECK_RESULT )*[a-z0-9_]+ base62_[a-z0-9_]+\\(")
 string(REGEX MATCHALL "base62_[a-z0-9_]+\\(" functions "${lines}")
 string(REPLACE "(" "" functions "${functions}")
 if(NOT functions)

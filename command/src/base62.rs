@@ -11,7 +11,6 @@ mod input_hint;
 mod line_end;
 mod memory;
 mod numbers;
-mod options;
 mod printer;
 mod streams;
 
@@ -21,7 +20,7 @@ mod generated {
 }
 use generated::*;
 
-use arguments::{Action, ArgumentError};
+use arguments::Action;
 use fault::ToolFault;
 use std::process::ExitCode;
 use std::{env, ffi::OsString};
@@ -30,12 +29,14 @@ use streams::{print, report};
 fn main() -> ExitCode {
     let arguments = env::args_os().skip(1).map(OsString::into_encoded_bytes);
     let outcome = match arguments::parse(arguments) {
-        Ok(Action::Convert(task)) => printer::print_all(&task),
+        Ok(Action::Convert(subcommand, settings, operands)) => {
+            printer::print_all(subcommand, &settings, &operands)
+        }
         Ok(Action::Print(text)) => {
             let printed = print(text.as_bytes()).or(Err(ToolFault::Write));
             printed.map(|()| ExitCode::SUCCESS)
         }
-        Err(ArgumentError(error)) => {
+        Err(error) => {
             report(error);
             return ExitCode::from(2);
         }

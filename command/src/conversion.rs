@@ -3,16 +3,16 @@
 
 //! The result of a subcommand for one input.
 
-use crate::fault::ToolFault;
+use crate::arguments::{Notation, Settings};
+use crate::fault::ToolFault::{self, Memory};
 use crate::memory::Bytes;
 use crate::numbers::{append, append_decimal, parse_decimal, parse_hex, trim_blanks};
-use crate::options::{Notation, Settings};
-use base62::{CanonicalError, DecodeError, FixedError, MAX_DIGITS};
-use std::fmt::{self, Display, Formatter};
-use std::io::Write;
-
 use ConversionError::{Decode, Failure, Invalid, TooNarrow, WrongLength};
 use Notation::{Hexadecimal, Uuid};
+use base62::{CanonicalError, DecodeError, FixedError, MAX_DIGITS};
+use base62::{decode_canonical_with, decode_fixed_with, decode_with, uuid_from_string};
+use std::fmt::{self, Display, Formatter};
+use std::io::Write;
 
 type Conversion = Result<(), ConversionError>;
 
@@ -30,12 +30,6 @@ pub(crate) enum ConversionError {
     Invalid(&'static str),
 }
 
-impl From<ToolFault> for ConversionError {
-    fn from(failure: ToolFault) -> Self {
-        Failure(failure)
-    }
-}
-
 impl Display for ConversionError {
     fn fmt(&self, f: &mut Formatter) -> fmt::Result {
         match self {
@@ -47,10 +41,8 @@ impl Display for ConversionError {
                 write!(f, "Encoded input has {length} byte{s}, not {width}")
             }
             TooNarrow { count, width } => {
-                write!(
-                    f,
-                    "Number needs {count} characters, and the width is {width}"
-                )
+                write!(f, "Number needs {count} characters, ")?;
+                write!(f, "and the width is {width}")
             }
             Invalid(error) => error.fmt(f),
         }
@@ -59,48 +51,42 @@ impl Display for ConversionError {
 
 pub(crate) fn encode(settings: &Settings, input: &[u8], out: &mut Bytes) -> Conversion {
     let digits = trim_blanks(input);
+    let uuid = || uuid_from_string(digits).ok().map(u128::from_be_bytes);
     let (number, error) = match settings.notation {
         None => (parse_decimal(digits), "Not a decimal number below 2^128"),
         Some(Hexadecimal) => (parse_hex(digits), "Not 1 to 32 hexadecimal digits"),
-        Some(Uuid) => {
-            let uuid = base62::uuid_from_string(digits).ok();
-            (uuid.map(u128::from_be_bytes), "Not a UUID")
-        }
+        Some(Uuid) => (uuid(), "Not a UUID"),
     };
     let number = number.ok_or(Invalid(error))?;
-    let (start, room) = (out.0.len(), settings.width.unwrap_or(MAX_DIGITS));
-    out.reserve(room).or(Err(ToolFault::Memory))?;
-    out.0.resize(start + room, 0);
-    let places = &mut out.0[start..];
+    let (start, width) = (out.0.len(), settings.width.unwrap_or(MAX_DIGITS));
+    out.reserve(width).or(Err(Failure(Memory)))?;
+    out.0.resize(start + width, 0);
+    let (alphabet, places) = (&settings.alphabet, &mut out.0[start..]);
     let length = match settings.width {
-        Some(_) => base62::encode_fixed_with(&settings.alphabet, number, places).map(|()| room),
-        None => base62::encode_bytes_with(&settings.alphabet, number, places),
+        Some(_) => base62::encode_fixed_with(alphabet, number, places).map(|()| width),
+        None => base62::encode_bytes_with(alphabet, number, places),
     };
     out.0.truncate(start + length.unwrap_or_default());
-    let (count, width) = (base62::digit_count(number), room);
+    let count = base62::digit_count(number);
     length.map(|_| ()).or(Err(TooNarrow { count, width }))
 }
 
 pub(crate) fn decode(settings: &Settings, string: &[u8], out: &mut Bytes) -> Conversion {
     let (alphabet, length) = (&settings.alphabet, string.len());
     let number = match settings.width {
-        Some(width) => {
-            base62::decode_fixed_with(alphabet, string, width).map_err(|error| match error {
-                FixedError::Decode(error) => Decode(error.into()),
-                FixedError::WrongLength => WrongLength { length, width },
-            })
-        }
-        None if settings.is_canonical => {
-            base62::decode_canonical_with(alphabet, string).map_err(Decode)
-        }
-        None => base62::decode_with(alphabet, string).map_err(|error| Decode(error.into())),
+        Some(width) => decode_fixed_with(alphabet, string, width).map_err(|error| match error {
+            FixedError::Decode(error) => Decode(error.into()),
+            FixedError::WrongLength => WrongLength { length, width },
+        }),
+        None if settings.needs_canonical => decode_canonical_with(alphabet, string).map_err(Decode),
+        None => decode_with(alphabet, string).map_err(|error| Decode(error.into())),
     }?;
     match settings.notation {
         None => append_decimal(number, out),
-        Some(Hexadecimal) => write!(out, "{number:x}").or(Err(ToolFault::Memory)),
+        Some(Hexadecimal) => write!(out, "{number:x}").or(Err(Memory)),
         Some(Uuid) => append(&base62::uuid_to_string(number.to_be_bytes()), out),
-    }?;
-    Ok(())
+    }
+    .map_err(Failure)
 }
 
 pub(crate) fn range(settings: &Settings, prefix: &[u8], out: &mut Bytes) -> Conversion {
@@ -111,7 +97,6 @@ pub(crate) fn range(settings: &Settings, prefix: &[u8], out: &mut Bytes) -> Conv
         None => "No string of 22 characters begins with the prefix; -w sets the width",
     });
     let range = range.map_err(|error| Decode(error.into()))?.ok_or(none)?;
-    append_decimal(*range.start(), out)?;
-    append(b" ", out)?;
-    Ok(append_decimal(*range.end(), out)?)
+    let (least, greatest) = range.into_inner();
+    write!(out, "{least} {greatest}").or(Err(Failure(Memory)))
 }

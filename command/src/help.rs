@@ -16,8 +16,7 @@ a to z, or of a custom alphabet, and decodes them.
   range [PREFIX]...      print the least and the greatest number of each prefix
   help [SUBCOMMAND]      print this help, or that of a subcommand
 
-  -h, --help             print this help, or that of a subcommand
-  -V, --version          print the version
+{options}
 
 Without an operand, a subcommand reads the lines of standard input. For each
 operand or line it prints one line, which is empty if the input is invalid.
@@ -38,12 +37,7 @@ Usage: base62 encode [OPTION]... [NUMBER]...
 Encodes each decimal number, or each line of standard input. Spaces and tabs
 around a number are ignored. An invalid number gives an empty line.
 
-  -a, --alternative      use the alphabet 0 to 9, a to z, A to Z
-  -A, --alphabet CHARACTERS  use these 62 printable ASCII characters, the zero first
-  -w, --width N          N characters, with leading zeros; a key is -w 22
-  -u, --uuid             encode UUIDs, or decode to UUIDs
-  -x, --hex              numbers are hexadecimal
-  -e, --keep-empty       an empty input gives an empty line, and is not an error
+{options}
 
   $ echo 1337 | base62 encode -w 4
   00LZ
@@ -58,13 +52,7 @@ the name of a file. An invalid string gives an empty line. With -c, it accepts
 exactly what encode prints, and with -w N exactly what encode -w N prints;
 otherwise, strings with any number of leading zeros.
 
-  -a, --alternative      use the alphabet 0 to 9, a to z, A to Z
-  -A, --alphabet CHARACTERS  use these 62 printable ASCII characters, the zero first
-  -w, --width N          N characters, with leading zeros; a key is -w 22
-  -c, --canonical        reject strings with leading zeros
-  -u, --uuid             encode UUIDs, or decode to UUIDs
-  -x, --hex              numbers are hexadecimal
-  -e, --keep-empty       an empty input gives an empty line, and is not an error
+{options}
 
   $ base62 decode LZ
   1337
@@ -79,10 +67,28 @@ for each prefix or each line of standard input. The strings have 22 characters,
 or as many as -w says, with leading zeros. If no string begins with the prefix,
 the line is empty.
 
-  -a, --alternative      use the alphabet 0 to 9, a to z, A to Z
-  -A, --alphabet CHARACTERS  use these 62 printable ASCII characters, the zero first
-  -w, --width N          N characters, with leading zeros; a key is -w 22
+{options}
 
   $ base62 range -w 5 000L
   1302 1363
 ";
+
+/// The options of all subcommands, and of the command. The arguments are parsed by these rows.
+pub(crate) const OPTIONS: &str = "\
+-a, --alternative      use the alphabet 0 to 9, a to z, A to Z
+-A, --alphabet CHARACTERS  use these 62 printable ASCII characters, the zero first
+-w, --width N          N characters, with leading zeros; a key is -w 22
+-c, --canonical        reject strings with leading zeros
+-u, --uuid             encode UUIDs, or decode to UUIDs
+-x, --hex              numbers are hexadecimal
+-e, --keep-empty       an empty input gives an empty line, and is not an error
+-h, --help             print this help, or that of a subcommand
+-V, --version          print the version
+";
+
+/// A help with the rows of the options that have these letters.
+pub(crate) fn with_options(help: &str, letters: &str) -> String {
+    let rows = OPTIONS.lines().filter(|row| letters.contains(&row[1..2]));
+    let listed: String = rows.map(|row| format!("  {row}\n")).collect();
+    help.replace("{options}\n", &listed)
+}

@@ -3,67 +3,54 @@
 
 //! Hints about invalid inputs.
 
+use crate::arguments::{Notation, Settings};
 use crate::conversion::ConversionError;
-use crate::options::{Notation, Settings};
-use std::fmt::{self, Display, Formatter};
 
-/// What an input of a subcommand may be instead, by its form alone. Displays nothing if that is unknown.
-pub(crate) struct InputHint<'a> {
-    pub(crate) subcommand: &'a str,
-    pub(crate) settings: &'a Settings,
-    pub(crate) input: &'a [u8],
-    pub(crate) is_operand: bool,
-    pub(crate) error: &'a ConversionError,
-}
-
-impl Display for InputHint<'_> {
-    fn fmt(&self, f: &mut Formatter) -> fmt::Result {
-        let (name, text) = (
-            self.subcommand,
-            std::str::from_utf8(self.input).unwrap_or(""),
-        );
-        let is_uuid = base62::uuid_from_string(self.input).is_ok();
-        match (self.subcommand, &self.settings.notation) {
-            _ if matches!(self.error, ConversionError::TooNarrow { .. }) => return Ok(()),
-            ("encode", Some(Notation::Uuid)) => (),
-            ("encode", _) if is_uuid => return f.write_str(": try --uuid"),
-            _ if is_uuid => return f.write_str(": try base62 encode --uuid"),
-            ("encode", None) => {
-                if let Some(hint) = hint_for_decimal(text.trim_matches([' ', '\t'])) {
-                    return f.write_str(hint);
-                }
-            }
-            _ => (),
-        }
-        // Nothing looks whether there is such a file.
-        let has_letters = text.contains(|letter: char| letter.is_alphabetic());
-        let is_file = text.contains('/') || text.contains('.') && has_letters || text == "-";
-        if self.is_operand && is_file {
-            return write!(f, ": try base62 {name} <FILE");
-        }
-        Ok(())
+/// What an input of a subcommand may be instead, by its form alone. Nothing if that is unknown.
+pub(crate) fn hint_for(
+    subcommand: &str,
+    settings: &Settings,
+    input: &[u8],
+    is_operand: bool,
+    error: &ConversionError,
+) -> &'static str {
+    let text = std::str::from_utf8(input).unwrap_or("");
+    let is_uuid = base62::uuid_from_string(input).is_ok();
+    let for_decimal = hint_for_decimal(text.trim_matches([' ', '\t']));
+    // Nothing looks whether there is such a file.
+    let has_letters = text.contains(char::is_alphabetic);
+    let is_file =
+        is_operand && (text.contains('/') || text.contains('.') && has_letters || text == "-");
+    match (subcommand, &settings.notation) {
+        _ if matches!(error, ConversionError::TooNarrow { .. }) => "",
+        ("encode", None | Some(Notation::Hexadecimal)) if is_uuid => ": try --uuid",
+        ("decode" | "range", _) if is_uuid => ": try base62 encode --uuid",
+        ("encode", None) if !for_decimal.is_empty() => for_decimal,
+        ("encode", _) if is_file => ": try base62 encode <FILE",
+        ("decode", _) if is_file => ": try base62 decode <FILE",
+        _ if is_file => ": try base62 range <FILE",
+        _ => "",
     }
 }
 
-fn hint_for_decimal(text: &str) -> Option<&'static str> {
+fn hint_for_decimal(text: &str) -> &'static str {
     let consists_of = |is_part: fn(char) -> bool| !text.is_empty() && text.chars().all(is_part);
     let digits = text.strip_prefix("0x").or(text.strip_prefix("0X"));
-    if digits.is_some_and(|digits| {
-        !digits.is_empty() && digits.bytes().all(|digit| digit.is_ascii_hexdigit())
-    }) {
-        Some(": try --hex")
-    } else if text.starts_with('-')
-        && consists_of(|c| c.is_ascii_digit() || c == '-')
-        && text.len() > 1
+    let is_hexadecimal = |digits: &str| digits.bytes().all(|digit| digit.is_ascii_hexdigit());
+    if digits.is_some_and(|digits| !digits.is_empty() && is_hexadecimal(digits)) {
+        ": try --hex"
+    } else if text.len() > 1
+        && text.starts_with('-')
+        && consists_of(|c| matches!(c, '0'..='9' | '-'))
     {
-        Some(": numbers are not negative")
-    } else if consists_of(|c| c.is_ascii_digit() || matches!(c, ',' | '_' | '\''))
-        && text.contains(|c: char| !c.is_ascii_digit())
+        ": numbers are not negative"
+    } else if consists_of(|c| matches!(c, '0'..='9' | ',' | '_' | '\''))
+        && !consists_of(|c| c.is_ascii_digit())
     {
-        Some(": try the digits alone")
+        ": try the digits alone"
     } else if consists_of(char::is_numeric) && !text.is_ascii() {
-        Some(": try the digits 0 to 9")
+        ": try the digits 0 to 9"
     } else {
-        None
+        ""
     }
 }

@@ -3,11 +3,11 @@
 
 //! Prints the results for operands, or for the lines of standard input.
 
-use crate::arguments::Task;
+use crate::arguments::{Settings, Subcommand};
 use crate::conversion::ConversionError;
 use crate::escape::Escaped;
 use crate::fault::ToolFault;
-use crate::input_hint::InputHint;
+use crate::input_hint::hint_for;
 use crate::line_end::line_end;
 use crate::memory::Bytes;
 use crate::numbers::append;
@@ -19,18 +19,23 @@ use std::process::ExitCode;
 const CHUNK_LEN: usize = 32768;
 
 /// Prints the result for each operand, or for each line if there is no operand.
-pub(crate) fn print_all(task: &Task) -> Result<ExitCode, ToolFault> {
+pub(crate) fn print_all(
+    subcommand: &Subcommand,
+    settings: &Settings,
+    operands: &[Vec<u8>],
+) -> Result<ExitCode, ToolFault> {
     let is_terminal = io::stdout().is_terminal();
     let mut printer = Printer {
-        task,
+        subcommand,
+        settings,
         buffer: Bytes::new(),
         limit: if is_terminal { 0 } else { CHUNK_LEN },
         status: ExitCode::SUCCESS,
     };
-    if task.operands.is_empty() {
+    if operands.is_empty() {
         printer.print_lines()?;
     }
-    for operand in &task.operands {
+    for operand in operands {
         printer.print(operand, None)?;
     }
     printer.flush()?;
@@ -38,7 +43,8 @@ pub(crate) fn print_all(task: &Task) -> Result<ExitCode, ToolFault> {
 }
 
 struct Printer<'a> {
-    task: &'a Task,
+    subcommand: &'a Subcommand<'a>,
+    settings: &'a Settings,
     /// The results that are not yet written.
     buffer: Bytes,
     /// How many bytes it may keep: none for a terminal.
@@ -50,42 +56,30 @@ impl Printer<'_> {
     /// Prints the result for an operand, or for the line of this number. If the input is invalid, first prints the
     /// results so far and reports the error. Then the line of output is empty.
     fn print(&mut self, input: &[u8], line: Option<u64>) -> Result<(), ToolFault> {
-        let (settings, (.., convert)) = (&self.task.settings, self.task.subcommand);
-        let result = if input.is_empty() && settings.keeps_empty {
-            Ok(())
-        } else {
-            convert(settings, input, &mut self.buffer)
+        let (subcommand, .., convert) = *self.subcommand;
+        let result = match input {
+            [] if self.settings.keeps_empty => Ok(()),
+            _ => convert(self.settings, input, &mut self.buffer),
         };
-        if let Err(error) = result {
-            if let ConversionError::Failure(failure) = error {
-                return Err(failure);
+        match result {
+            Ok(()) => (),
+            Err(ConversionError::Failure(failure)) => return Err(failure),
+            Err(error) => {
+                self.flush()?;
+                self.status = ExitCode::FAILURE;
+                let hint = hint_for(subcommand, self.settings, input, line.is_none(), &error);
+                let shown = Escaped(input);
+                match line {
+                    Some(number) => report(format_args!("line {number}: {shown}: {error}{hint}")),
+                    None => report(format_args!("{shown}: {error}{hint}")),
+                }
             }
-            self.flush()?;
-            self.report(input, line, &error);
-            self.status = ExitCode::FAILURE;
         }
         append(b"\n", &mut self.buffer)?;
         if self.buffer.as_slice().len() > self.limit {
-            return self.flush();
+            self.flush()?;
         }
         Ok(())
-    }
-
-    fn report(&self, input: &[u8], line: Option<u64>, error: &ConversionError) {
-        let (subcommand, ..) = *self.task.subcommand;
-        let (settings, is_operand) = (&self.task.settings, line.is_none());
-        let hint = InputHint {
-            subcommand,
-            settings,
-            input,
-            is_operand,
-            error,
-        };
-        let shown = Escaped(input);
-        match line {
-            Some(number) => report(format_args!("line {number}: {shown}: {error}{hint}")),
-            None => report(format_args!("{shown}: {error}{hint}")),
-        }
     }
 
     fn flush(&mut self) -> Result<(), ToolFault> {
@@ -97,7 +91,7 @@ impl Printer<'_> {
     /// Prints the result for each line of standard input. Writes the results so far before a read, which may block.
     fn print_lines(&mut self) -> Result<(), ToolFault> {
         if io::stdin().is_terminal() {
-            let (name, _, _, example, _) = self.task.subcommand;
+            let (name, _, _, example, _) = self.subcommand;
             report(format_args!(
                 "It reads lines such as `{example}`: try base62 {name} --help"
             ));

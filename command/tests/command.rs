@@ -18,16 +18,13 @@ fn fails(line: &str, error: &str) {
     ends(line, 1, "", &format!("base62: {error}\n"));
 }
 
-/// The arguments are rejected before anything is read or written.
+/// The arguments are rejected before anything is read or written. The error has a hint of its own, or the usual one.
 #[track_caller]
 fn is_wrong(arguments: &str, error: &str) {
-    has_hint(arguments, &format!("{error}: try base62 --help"));
-}
-
-#[track_caller]
-fn has_hint(arguments: &str, error: &str) {
+    let usual = ": try base62 --help";
+    let hint = if error.contains(": ") { "" } else { usual };
     let line = format!("{{ base62 {arguments}; status=$?; cat; exit $status; }} <<<unread");
-    ends(&line, 2, "unread\n", &format!("base62: {error}\n"));
+    ends(&line, 2, "unread\n", &format!("base62: {error}{hint}\n"));
 }
 
 #[test]
@@ -55,11 +52,10 @@ fn inputs() {
 /// A read takes 32,768 bytes.
 #[test]
 fn a_first_line_about_the_length_of_a_read() {
+    let error = "base62: line 3: !: Encoded input contains the invalid byte b'!' at index 0\n";
     for zeros in 32_760..=32_770 {
         for end in [r"\n", r"\r\n"] {
             let line = format!("printf '%0{zeros}dLZ{end}z{end}!' 0 >$file; base62 decode <$file");
-            let error =
-                "base62: line 3: !: Encoded input contains the invalid byte b'!' at index 0\n";
             ends(&in_a_file(&line), 1, "1337\n61\n\n", error);
         }
     }
@@ -88,52 +84,29 @@ fn invalid_inputs() {
         range 'L ' -> L : Encoded input contains the invalid byte b' ' at index 1
         encode -u - -> -: Not a UUID: try base62 encode <FILE
         decode - -> -: Encoded input contains the invalid byte b'-' at index 0: try base62 decode <FILE
-        range - -> -: Encoded input contains the invalid byte b'-' at index 0: try base62 range <FILE";
+        range - -> -: Encoded input contains the invalid byte b'-' at index 0: try base62 range <FILE
+        encode ids.txt -> ids.txt: Not a decimal number below 2^128: try base62 encode <FILE
+        encode -u ./ids -> ./ids: Not a UUID: try base62 encode <FILE
+        decode ids.txt -> ids.txt: Encoded input contains the invalid byte b'.' at index 3: try base62 decode <FILE
+        encode <<<ids.txt -> line 1: ids.txt: Not a decimal number below 2^128
+        encode 0x539 -> 0x539: Not a decimal number below 2^128: try --hex
+        encode 1,337 -> 1,337: Not a decimal number below 2^128: try the digits alone
+        encode 1_337 -> 1_337: Not a decimal number below 2^128: try the digits alone
+        encode $'1337\'' -> 1337\': Not a decimal number below 2^128: try the digits alone
+        encode ١٣ -> \xd9\xa1\xd9\xa3: Not a decimal number below 2^128: try the digits 0 to 9
+        encode -- -5 -> -5: Not a decimal number below 2^128: numbers are not negative
+        encode -x $uuid -> 017f22e2-79b0-7cc3-98c4-dc0c0c07398f: Not 1 to 32 hexadecimal digits: try --uuid
+        range $uuid -> 017f22e2-79b0-7cc3-98c4-dc0c0c07398f: Encoded input contains the invalid byte b'-' at index 8: try base62 encode --uuid
+        decode < <(printf 'LZ\r') -> line 1: LZ\r: Encoded input contains the invalid byte b'\r' at index 2";
     for (arguments, error) in sides(table) {
-        rejects(&format!("base62 {arguments}"), error);
+        let uuid = "uuid=017f22e2-79b0-7cc3-98c4-dc0c0c07398f";
+        rejects(&format!("{uuid}; base62 {arguments}"), error);
     }
-    // A carriage return that no line feed follows is part of the string.
-    let error = r"line 1: LZ\r: Encoded input contains the invalid byte b'\r' at index 2";
-    rejects(r"printf 'LZ\r' | base62 decode", error);
     // The results for all others are printed, in order.
     let mixed =
         format!("LZ\nbase62: line 2: x: {NO_NUMBER}\n\nbase62: line 3: '': {NO_NUMBER}\n\nz\n");
     let line = r"printf '1337\nx\n\n61' | base62 encode 2>&1";
     ends(line, 1, &mixed, "");
-}
-
-/// A hint names what the input may be. The conversions that it names have the right results.
-#[test]
-fn hints() {
-    let table = r"
-        encode 0x539 -> --hex
-        encode -x 017f22e2-79b0-7cc3-98c4-dc0c0c07398f -> --uuid
-        encode 1,337 -> the digits alone
-        encode 1_337 -> the digits alone
-        encode 1337' -> the digits alone
-        encode ١٣ -> the digits 0 to 9
-        encode ids.txt -> base62 encode <FILE
-        encode -u ./ids -> base62 encode <FILE
-        decode ids.txt -> base62 decode <FILE
-        range 017f22e279b07cc398c4dc0c0c07398f -> base62 encode --uuid";
-    for (arguments, hint) in sides(table) {
-        let (name, input) = arguments.trim().rsplit_once(' ').unwrap();
-        let (status, _, errors) = run(&format!("base62 {name} $'{}'", input.replace('\'', r"\'")));
-        assert!(
-            status == Some(1) && errors.ends_with(&format!(": try {hint}\n")),
-            "{errors}"
-        );
-    }
-    rejects(
-        "base62 encode -- -5",
-        &format!("-5: {NO_NUMBER}: numbers are not negative"),
-    );
-    // A line is no file.
-    rejects(
-        "base62 encode <<<ids.txt",
-        &format!("line 1: ids.txt: {NO_NUMBER}"),
-    );
-    prints("base62 encode --hex 0x539", "LZ\n");
 }
 
 /// A message shows an input up to 100 bytes, and without what would control a terminal.
@@ -162,12 +135,7 @@ fn options() {
     for option in ["--alternative", "-A $letters -a"] {
         prints(&format!("base62 encode {option} 1337"), "lz\n");
     }
-    for option in [
-        "-A$letters",
-        "-a -A $letters",
-        "--alphabet=$letters",
-        "--alphabet $letters",
-    ] {
+    for option in "-A$letters|-a -A $letters|--alphabet=$letters|--alphabet $letters".split('|') {
         prints(&format!("base62 encode {option} 1337"), "LZ\n");
     }
     let uuid = "00000000-0000-0000-0000-000000000539";
@@ -198,21 +166,16 @@ fn help() {
             prints(line, &format!("{}\n", rest.lines().next().unwrap()));
         }
     }
+    // README has the names of the options.
+    let listed = run("base62 help; base62 help decode").1;
+    let readme = include_str!("../README.md").lines();
+    for row in readme.filter(|row| row.starts_with("| `-")) {
+        let names: Vec<_> = row.split('`').skip(1).step_by(2).take(2).collect();
+        assert!(listed.contains(&format!("\n  {}  ", names.join(", "))));
+    }
     let version = format!("base62 {}\n", env!("CARGO_PKG_VERSION"));
     for asked in ["-V", "--version", "encode --version"] {
         prints(&format!("base62 {asked}"), &version);
-    }
-}
-
-/// README has the names of the options.
-#[test]
-fn options_in_readme() {
-    let readme = include_str!("../README.md");
-    let help = ["help", "help decode"].map(|line| run(&format!("base62 {line}")).1);
-    for row in readme.lines().filter(|row| row.starts_with("| `-")) {
-        let names: Vec<_> = row.split('`').skip(1).step_by(2).take(2).collect();
-        let names = format!("\n  {}  ", names.join(", "));
-        assert!(help.concat().contains(&names), "{names}");
     }
 }
 
@@ -241,6 +204,11 @@ fn wrong_arguments() {
         encode --alphabet -> Option --alphabet needs a value
         encode -w '' 5 -> A width is an integer of 1 or more, not ''
         encode -w $'\xff' -> A width is an integer of 1 or more, not \xff
+        encode -w=5 5 -> A width is an integer of 1 or more, not =5
+        encode -w -5 5 -> A width is an integer of 1 or more, not -5
+        range --width=00 5 -> A width is an integer of 1 or more, not 00
+        --help=5 -> Option --help takes no value
+        encode --uuid= 5 -> Option --uuid takes no value
         encode -A alternative -> For this alphabet there is --alternative
         encode -A standard -> For this alphabet no option is needed
         encode -A '' -> Alphabet has 0 characters, not 62
@@ -248,32 +216,15 @@ fn wrong_arguments() {
         encode -A ${letters:1} -> Alphabet has 61 characters, not 62
         encode -A ${letters:0:61}0 -> Alphabet repeats the byte b'0' at index 61
         encode -A ${letters:1}$'\x1f' -> Alphabet has a character that is not printable ASCII
-        encode -A ${letters:1}$'\x7f' -> Alphabet has a character that is not printable ASCII";
+        encode -A ${letters:1}$'\x7f' -> Alphabet has a character that is not printable ASCII
+        enc 5 -> There is no subcommand enc: try base62 encode
+        Encoed 5 -> There is no subcommand Encoed: try base62 encode
+        1337 -> There is no subcommand 1337: try base62 encode
+        dec LZ -> There is no subcommand dec: try base62 decode
+        ranges L -> There is no subcommand ranges: try base62 range
+        encode -5 -> There is no option -5: numbers are not negative";
     for (arguments, error) in sides(table) {
         is_wrong(arguments, error);
-    }
-    for (name, meant) in [
-        ("enc", "encode"),
-        ("Encoed", "encode"),
-        ("dec", "decode"),
-        ("1337", "encode"),
-    ] {
-        let error = format!("There is no subcommand {name}: try base62 {meant}");
-        has_hint(&format!("{name} 5"), &error);
-    }
-    has_hint(
-        "encode -5",
-        "There is no option -5: numbers are not negative",
-    );
-    for option in ["help", "version", "hex", "canonical", "uuid", "keep-empty"] {
-        let error = format!("Option --{option} takes no value");
-        is_wrong(&format!("--{option}=5"), &error);
-        is_wrong(&format!("encode --{option}= 5"), &error);
-    }
-    for width in ["0", "00", "x", "-5", "+5", "=5", "5 5", "5.0"] {
-        let error = format!("A width is an integer of 1 or more, not {width}");
-        is_wrong(&format!("encode -w '{width}' 5"), &error);
-        is_wrong(&format!("range --width='{width}' 5"), &error);
     }
 }
 

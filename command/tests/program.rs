@@ -1,5 +1,5 @@
 //! `base62_cli`, if its input, output or memory fails, and if all goes well. `BASE62_CLI` names another program to test,
-//! which `.ci/io-errors` sets.
+//! which `.ci/compare-programs` sets.
 
 mod shell;
 

@@ -19,10 +19,8 @@ fn page() {
         return;
     }
     // If the help has changed, tests/page writes the page anew.
-    prints(
-        "$crate/tests/page | diff - $crate/share/man/man1/base62.1",
-        "",
-    );
+    let line = "$crate/tests/page | diff - $crate/share/man/man1/base62.1";
+    prints(line, "");
 }
 
 /// Compares the words that are completed behind some arguments.

@@ -20,6 +20,14 @@ fn check(arguments: &str, lines: impl IntoIterator<Item = Line>) {
     check_program(&format!("base62 {arguments}"), lines);
 }
 
+/// Runs a command over lines. Tests run at the same time, each in a thread.
+fn run_over(command: &str, input: &[u8]) -> (Option<i32>, String, String) {
+    let (folder, id) = (env!("CARGO_TARGET_TMPDIR"), thread::current().id());
+    let file = format!("{folder}/{id:?}");
+    fs::write(&file, input).unwrap();
+    run(&format!("{command} <'{file}'"))
+}
+
 /// Compares the status, the output and the messages of a run over lines.
 #[track_caller]
 fn check_program(command: &str, lines: impl IntoIterator<Item = Line>) {
@@ -40,11 +48,7 @@ fn check_program(command: &str, lines: impl IntoIterator<Item = Line>) {
         }
         output.push(b'\n');
     }
-    // Tests run at the same time, each in a thread.
-    let (folder, id) = (env!("CARGO_TARGET_TMPDIR"), thread::current().id());
-    let file = format!("{folder}/{id:?}");
-    fs::write(&file, input).unwrap();
-    let (status, printed, reported) = run(&format!("{command} <'{file}'"));
+    let (status, printed, reported) = run_over(command, &input);
     assert_eq!(reported.lines().count(), errors.len(), "{reported}");
     for (line, (start, end)) in reported.lines().zip(&errors) {
         let is_expected = line.starts_with(start) && line.ends_with(end);
@@ -181,28 +185,19 @@ fn uuids() {
     };
     // The command ignores blanks around a number.
     let is_bare = |row: &&Row| bytes(row[0]).trim_ascii() == bytes(row[0]);
-    check(
-        "encode -u",
-        rows("uuid_string").iter().filter(is_bare).map(line),
-    );
+    let rows = rows("uuid_string");
+    check("encode -u", rows.iter().filter(is_bare).map(line));
 }
 
 /// An error for the string of a UUID, and no other one, names the option for UUIDs.
 #[test]
 fn hints() {
-    for (name, hint) in [
-        ("encode", ": try --uuid"),
-        ("decode", ": try base62 encode --uuid"),
-    ] {
-        let rows = rows("hint").into_iter().filter(|row| row[0] == name);
-        let rows: Vec<_> = rows.filter(|row| !row[1].contains("%0A")).collect();
-        let input: Vec<_> = rows
-            .iter()
-            .map(|row| [&bytes(row[1])[..], b"\n"].concat())
-            .collect();
-        let file = format!("{}/hints", env!("CARGO_TARGET_TMPDIR"));
-        fs::write(&file, input.concat()).unwrap();
-        let (_, _, errors) = run(&format!("base62 {name} <'{file}'"));
+    let hints = [": try --uuid", ": try base62 encode --uuid"];
+    for (name, hint) in ["encode", "decode"].into_iter().zip(hints) {
+        let mut rows = rows("hint");
+        rows.retain(|row| row[0] == name && !row[1].contains("%0A"));
+        let lines: Vec<_> = rows.iter().map(|row| bytes(row[1])).collect();
+        let (_, _, errors) = run_over(&format!("base62 {name}"), &lines.join(&b'\n'));
         for (number, row) in (1..).zip(rows) {
             let start = format!("base62: line {number}: ");
             let error = errors.lines().find(|error| error.starts_with(&start));

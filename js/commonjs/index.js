@@ -130,13 +130,13 @@ function joinLongParts(high, middle, low) {
 }
 
 function bigIntOfWords() {
-  if ((words[2] | words[3]) === 0) return halves[0];
+  if (words[2] === 0 && words[3] === 0) return halves[0];
   return (halves[1] << 64n) | halves[0];
 }
 
 // Returns -1 if the number is above 2**53 - 1.
 function integerOfWords() {
-  if ((words[2] | words[3] | (words[1] >>> 21)) !== 0) return -1;
+  if (words[3] !== 0 || words[2] !== 0 || words[1] >= 2 ** 21) return -1;
   return words[1] * TWO_TO_32 + words[0];
 }
 
@@ -178,8 +178,8 @@ function stringOfGroups(count, pairs) {
 // or a prefix: a string, encoded as UTF-8, or a Uint8Array. Its units are the code units of the string, or the bytes.
 
 const MAX_DIGITS = 22;
-const POWERS_OF_62 = [1n];
-for (let i = 0; i < MAX_DIGITS; i++) POWERS_OF_62.push(POWERS_OF_62[i] * 62n);
+const POWERS_OF_62 =
+  Array(MAX_DIGITS).fill(62n).reduce((powers, base, i) => [...powers, powers[i] * base], [1n]);
 
 // Descriptors inherit nothing, since a program may give Object.prototype a property such as `get`. An assignment would
 // fail if it had a read-only `code`.
@@ -211,7 +211,7 @@ function showByte(byte, index) {
 }
 
 // The end of an error for the string of a UUID or, in the place of a number, of decimal digits. In a bundle of `encode`
-// alone this regular expression is smaller than readUuid.
+// alone this regular expression is smaller than readUuidString.
 const UUID = /^[\da-f]{8}(-?)([\da-f]{4}\1){3}[\da-f]{12}$/i;
 function hintFor(given, isForNumber) {
   if (typeof given !== 'string') return '';
@@ -365,9 +365,12 @@ function checkCanonical(text, length) {
 // is found once, and common paths read the length of '' + text, which V8 knows to be a string.
 const charCodeAt = ''.charCodeAt.call.bind(''.charCodeAt);
 
-// The value of each hexadecimal digit by its code, and -1 for any other code, as the last element.
-const HEX_VALUES = new Int8Array(129).fill(-1);
-for (let i = 0; i < 22; i++) HEX_VALUES['0123456789abcdefABCDEF'.charCodeAt(i)] = i < 16 ? i : i - 6;
+// The value of each hexadecimal digit by its code, and for any other code, as the last element, a number that makes each sum
+// in readHex negative.
+const HEX_VALUES = Int32Array.from({ length: 129 }, (_, code) => {
+  const value = '0123456789abcdef'.indexOf(String.fromCharCode(code).toLowerCase());
+  return value < 0 ? -(2 ** 16) : value;
+});
 const HEX = Uint8Array.from('0123456789abcdef', (digit) => digit.charCodeAt(0));
 
 // Returns the value of four digits, or a negative number if one is invalid.
@@ -375,38 +378,41 @@ function readHex(string, start) {
   const a = HEX_VALUES[Math.min(charCodeAt(string, start), 128)];
   const b = HEX_VALUES[Math.min(charCodeAt(string, start + 1), 128)];
   const c = HEX_VALUES[Math.min(charCodeAt(string, start + 2), 128)];
-  return (a << 12) | (b << 8) | (c << 4) | HEX_VALUES[Math.min(charCodeAt(string, start + 3), 128)];
+  return (a << 12) + (b << 8) + (c << 4) + HEX_VALUES[Math.min(charCodeAt(string, start + 3), 128)];
 }
 
 const HYPHEN = 45;
-const hasHyphens = (string) => charCodeAt(string, 8) === HYPHEN && charCodeAt(string, 13) === HYPHEN &&
-  charCodeAt(string, 18) === HYPHEN && charCodeAt(string, 23) === HYPHEN;
+const hasHyphens = (string, start) => charCodeAt(string, start + 8) === HYPHEN &&
+  charCodeAt(string, start + 13) === HYPHEN && charCodeAt(string, start + 18) === HYPHEN &&
+  charCodeAt(string, start + 23) === HYPHEN;
 
-// Writes the words of a UUID, with hyphens or without. Returns whether the string is one.
-function readPlainUuid(string) {
-  const length = ('' + string).length;
+// Writes the words of a UUID, with hyphens or without. Returns whether so many characters from `start` on are one.
+function readUuid(string, start, length) {
   const hyphen = length === 36 ? 1 : 0;
-  if (hyphen ? !hasHyphens(string) : length !== 32) return false;
-  const a = readHex(string, 0);
-  const b = readHex(string, 4);
-  const c = readHex(string, 8 + hyphen);
-  const d = readHex(string, 12 + 2 * hyphen);
-  const e = readHex(string, 16 + 3 * hyphen);
-  const f = readHex(string, 20 + 4 * hyphen);
-  const g = readHex(string, 24 + 4 * hyphen);
-  const h = readHex(string, 28 + 4 * hyphen);
+  if (hyphen ? !hasHyphens(string, start) : length !== 32) return false;
+  const a = readHex(string, start);
+  const b = readHex(string, start + 4);
+  const c = readHex(string, start + 8 + hyphen);
+  const d = readHex(string, start + 12 + 2 * hyphen);
+  const e = readHex(string, start + 16 + 3 * hyphen);
+  const f = readHex(string, start + 20 + 4 * hyphen);
+  const g = readHex(string, start + 24 + 4 * hyphen);
+  const h = readHex(string, start + 28 + 4 * hyphen);
+  if (a < 0 || b < 0 || c < 0 || d < 0 || e < 0 || f < 0 || g < 0 || h < 0) return false;
   words[3] = (a << 16) | b;
   words[2] = (c << 16) | d;
   words[1] = (e << 16) | f;
   words[0] = (g << 16) | h;
-  return (a | b | c | d | e | f | g | h) >= 0;
+  return true;
 }
 
-// It may also be in braces or after urn:uuid:.
-function readUuid(string) {
-  if (readPlainUuid(string)) return true;
-  if (string.startsWith('{') && string.endsWith('}')) return readPlainUuid(string.slice(1, -1));
-  return string.slice(0, 9).toLowerCase() === 'urn:uuid:' && readPlainUuid(string.slice(9));
+// The UUID may also be in braces or after urn:uuid:.
+function readUuidString(string) {
+  const length = ('' + string).length;
+  if (length <= 36 && readUuid(string, 0, length)) return true;
+  if (length < 34) return false;
+  if (charCodeAt(string, 0) === 123 && charCodeAt(string, length - 1) === 125) return readUuid(string, 1, length - 2);
+  return string.slice(0, 9).toLowerCase() === 'urn:uuid:' && readUuid(string, 9, length - 9);
 }
 
 function readUuidBytes(bytes) {
@@ -429,10 +435,27 @@ function uuidOfWords() {
 
 const KEY_LENGTH = 22;
 
-// What each alphabet has for its characters:
-// - `digits`: the digit of each code, as in strings.js
-// - `pairs`: the codes of the two characters of each number below 62**2, the first in the low byte
+// The digits and the pairs of each alphabet.
 const tables = new WeakMap();
+
+// The digit of each code, as in strings.js. The characters are 62 of ASCII.
+function createDigits(characters) {
+  const digits = new Float64Array(129).fill(Infinity);
+  for (let digit = 0; digit < 62; digit++) {
+    const code = characters.charCodeAt(digit);
+    if (digits[code] < 62)
+      throw new Base62Error(`Alphabet repeats the ${showByte(code, digit)}`, 'REPEATED_CHARACTER', code, digit);
+    digits[code] = digit;
+  }
+  return digits;
+}
+
+// The codes of the two characters of each number below 62**2, the first in the low byte.
+function createPairs(characters) {
+  const pairs = new Uint16Array(62 ** 2);
+  for (let i = 0; i < 62 ** 2; i++) pairs[i] = characters.charCodeAt(i / 62) | (characters.charCodeAt(i % 62) << 8);
+  return pairs;
+}
 
 class Alphabet {
   constructor(characters) {
@@ -441,16 +464,7 @@ class Alphabet {
     let wrong = length !== 62 && `has ${quantity(length, 'character')}, not 62`;
     if (/[^\0-\x7f]/.test(characters)) wrong = 'has a non-ASCII character';
     if (wrong) throw new Base62Error(`the alphabet ${wrong}`, 'INVALID_ALPHABET');
-    const digits = new Float64Array(129).fill(Infinity);
-    for (let digit = 0; digit < 62; digit++) {
-      const code = characters.charCodeAt(digit);
-      if (digits[code] < 62)
-        throw new Base62Error(`Alphabet repeats the ${showByte(code, digit)}`, 'REPEATED_CHARACTER', code, digit);
-      digits[code] = digit;
-    }
-    const pairs = new Uint16Array(62 ** 2);
-    for (let i = 0; i < 62 ** 2; i++) pairs[i] = characters.charCodeAt(i / 62) | (characters.charCodeAt(i % 62) << 8);
-    tables.set(this, { digits, pairs });
+    tables.set(this, { digits: createDigits(characters), pairs: createPairs(characters) });
     defineReadOnly(this, 'characters', characters);
   }
 }
@@ -508,7 +522,7 @@ function splitNumber(number) {
 
 function splitUuid(uuid, mayBeNumber = false) {
   if (typeof uuid === 'string') {
-    if (!readUuid(uuid)) throw invalidUuid(mayBeNumber ? hintFor(uuid, true) : '');
+    if (!readUuidString(uuid)) throw invalidUuid(mayBeNumber ? hintFor(uuid, true) : '');
   } else {
     if (!isUint8Array(uuid)) throw wrongType('a UUID is a string or a Uint8Array', uuid);
     if (lengthOf.call(uuid) !== 16) throw invalidUuid();

@@ -22,9 +22,9 @@ export const isConstant = (v) => v.low !== undefined && v.low === v.high && v.in
 
 export class Path {
   lines = ['(set-option :smt.arith.solver 2)'];
-  goals = [];
+  passed = 0;
   decided = 0;
-  quotients = new Map();
+  found = new Map();
 
   // The decisions for the first conditions, and a list for those of other paths.
   constructor(decisions, others) { Object.assign(this, { decisions, others }); }
@@ -32,10 +32,7 @@ export class Path {
   assume(term) { this.lines.push(`(assert ${term})`); }
 
   // What comes later may rest on a goal: a path ends at its first open one.
-  prove(goal, term) {
-    this.goals.push(goal);
-    this.lines.push({ goal, term });
-  }
+  prove(goal, term) { this.lines.push({ goal, term }); }
 
   unknown(low, high, type) {
     const v = integer(`x${this.lines.length}`, low, high, type);
@@ -51,23 +48,26 @@ export class Path {
     return input;
   }
 
+  // What is found for a key, once.
+  once(key, find) { return this.found.get(key) ?? this.found.set(key, find()).get(key); }
+
   define(definition) {
-    const { term } = this.unknown();
-    this.assume(`(= ${term} ${definition})`);
-    return term;
+    return this.once(definition, () => {
+      const { term } = this.unknown();
+      this.assume(`(= ${term} ${definition})`);
+      return term;
+    });
   }
 
-  // The integers q and r with v = divisor * q + r and start <= r < start + divisor, by one definition for each pair.
+  // The integers q and r with v = divisor * q + r and start <= r < start + divisor.
   divide(v, divisor, start = 0n) {
     const [low, high] = [v.low, v.high].map((n) => n === undefined ? n : floorOfQuotient(n - start, divisor));
     if (low === 0n && high === 0n) return [constant(0n, v.type), v];
-    const key = `${v.term} ${divisor} ${start}`;
-    if (!this.quotients.has(key)) {
+    return this.once(`${v.term} ${divisor} ${start}`, () => {
       const [q, r] = [this.unknown(low, high, v.type), this.unknown(start, start + divisor - 1n, v.type)];
       this.assume(`(= ${v.term} (+ (* ${divisor} ${q.term}) ${r.term}))`);
-      this.quotients.set(key, [q, r]);
-    }
-    return this.quotients.get(key);
+      return [q, r];
+    });
   }
 
   // Which way a condition goes on this path. Another path goes the other way.
@@ -93,7 +93,10 @@ export function explore(run) {
   return paths;
 }
 
-const check = (ms) => `(set-option :timeout ${ms})\n(check-sat-using (then simplify propagate-values solve-eqs smt))`;
+// A limit counts steps of z3, so that its result is the same on each machine. A goal takes at most 800,000.
+const check = (limit) => `(set-option :rlimit ${limit})
+(check-sat-using (then simplify propagate-values solve-eqs smt))
+(set-option :rlimit 0)`;
 
 // A value to try where z3 finds none: the least, the greatest, or one of any size. They are the same in each run.
 let state = 62n;
@@ -110,11 +113,10 @@ class Solver {
   // A z3 that was stopped is written to in vain.
   constructor() { this.z3.stdin.on('error', () => {}); }
   stop() { this.z3.kill('SIGKILL'); }
-  tell(...lines) { this.z3.stdin.write(`${lines.join('\n')}\n`); }
 
-  // All that z3 prints for a command.
-  async ask(command) {
-    this.tell(command, '(echo "end")');
+  // All that z3 prints for commands.
+  async ask(...commands) {
+    this.z3.stdin.write(`${commands.join('\n')}\n(echo "end")\n`);
     let result = '';
     for (let line = await this.results.next(); !line.done && line.value !== 'end'; line = await this.results.next())
       result += line.value;
@@ -123,54 +125,39 @@ class Solver {
     return result;
   }
 
-  // Whether a term is false for some values of the inputs. If z3 does not know it soon, some are tried before it goes on.
-  async refute(term, inputs, soon, late) {
-    this.tell('(push)', `(assert (not ${term}))`);
-    const result = await this.ask(check(soon));
+  // Whether a term is false for some values of the inputs. If z3 does not find out, some are tried.
+  async refute(script, term, inputs, limit) {
+    const result = await this.ask(...script, '(push)', `(assert (not ${term}))`, check(limit));
     for (let i = 0; i < 20 && result === 'unknown'; i++) {
-      this.tell('(push)', ...inputs.map(draw));
-      if (await this.ask(check(300)) === 'sat') return 'sat';
-      this.tell('(pop)');
+      if (await this.ask('(push)', ...inputs.map(draw), check(100_000)) === 'sat') return 'sat';
+      await this.ask('(pop)');
     }
-    return result === 'unknown' && late ? this.ask(check(late)) : result;
+    return result;
   }
 
-  async valueOf({ term }) {
-    const value = await this.ask(`(get-value (${term}))`);
-    return BigInt(value.slice(term.length + 3, -2).replace(/[( )]/g, ''));
-  }
-
-  // When a command takes too long, z3 4.8 may cancel the next one instead. Then the path starts again.
+  // Finds the first open goal, with a call as an example if values are found, or whether the path is possible.
   async solve(path) {
-    try {
-      await this.examine(path);
-    } catch (error) {
-      if (!error.message.includes('canceled')) throw error;
-      await this.solve(path);
-    }
-  }
-
-  // Finds the first open goal, with a call as an example if z3 knows values, or whether the path is possible.
-  async examine(path) {
-    const inputs = [];
-    this.tell('(reset)');
+    const [script, inputs] = [['(reset)'], []];
     for (const line of path.lines) {
       if (line.input) inputs.push(line.input);
-      else if (!line.goal) this.tell(line);
+      else if (!line.goal) script.push(line);
       else {
-        const result = await this.refute(line.term, inputs, 2000, 60000);
+        const result = await this.refute(script.splice(0), line.term, inputs, 3_000_000);
         if (result !== 'unsat') return this.note(path, line.goal, result === 'sat' ? inputs : []);
-        this.tell('(pop)', `(assert ${line.term})`);
+        script.push('(pop)', `(assert ${line.term})`);
+        path.passed++;
       }
     }
-    path.isPossible = await this.refute('false', inputs, 200) === 'sat';
+    path.isPossible = await this.refute(script, 'false', inputs, 300_000) === 'sat';
   }
 
   async note(path, goal, inputs) {
-    const values = new Map();
-    for (const input of inputs) values.set(input.term, await this.valueOf(input));
     path.open = goal;
-    if (inputs.length > 0) path.example = path.show?.(({ term, low = 0n }) => values.get(term) ?? low);
+    if (inputs.length === 0) return;
+    const found = await this.ask(`(get-value (${inputs.map(({ term }) => term).join(' ')}))`);
+    const values = new Map(Array.from(
+      found.matchAll(/\((\w+) (\d+|\(- \d+\))\)/g), ([, term, value]) => [term, BigInt(value.replace(/[( )]/g, ''))]));
+    path.example = path.show?.(({ term, low = 0n }) => values.get(term) ?? low);
   }
 }
 

@@ -69,7 +69,7 @@ function numberOfWords(m, path, show) {
 prove('splitInteger', ({ splitInteger }, m, path) => {
   m.open('groups');
   const number = path.input(0n, MOST_OF_NUMBERS);
-  path.show = (value) => `encode(${value(number)})`;
+  path.show = (value) => `[encode(2n ** 127n), encode(${value(number)}), encodeKey(${value(number)})]`;
   splits(m, path, splitInteger(number), number.term);
 });
 
@@ -83,7 +83,7 @@ prove('splitBigInt', ({ splitBigInt }, m, path) => {
   m.open('groups');
   m.open('words');
   const number = path.input(undefined, undefined, 'bigint');
-  path.show = (value) => `encode(${value(number)}n)`;
+  path.show = (value) => `[encode(2n ** 127n), encode(${value(number)}n), encodeKey(${value(number)}n)]`;
   const count = splitBigInt(number);
   path.prove('0 is for numbers out of range', equal(`${count !== 0}`, range(number.term, 0n, MOST)));
   if (count !== 0) splits(m, path, count, number.term);
@@ -148,7 +148,7 @@ prove('digitOf', ({ digitOf }, m, path) => {
   const unit = path.input(0n, 65535n);
   path.show = (value) => `decode(${stringOf([unit], value)})`;
   const { type, term, infinite } = digitOf(unit);
-  path.prove('a Number', `${type === 'number'}`);
+  path.prove('a Number, of a table of such', `${type === 'number' && m.values.digits.kind === 'Float'}`);
   path.prove('it is Infinity exactly for others', equal(infinite, `(or (other ${unit.term}) (> ${unit.term} 127))`));
   path.prove('it is the digit', implies(not(infinite), equal(term, `(digit ${unit.term})`)));
 });
@@ -202,51 +202,43 @@ const areHex = (digits) => all(digits.map(({ term }) => `(<= 0 ${term})`));
 function isHex(term, units) {
   const digits = units.map(({ hex }) => hex).reverse();
   const isValue = implies(areHex(digits), equal(term, sum(digits, 16n)));
-  return all([range(term, -power(31), power(16) - 1n), equal(`(<= 0 ${term})`, areHex(digits)), isValue]);
+  return [range(term, -power(31), power(16) - 1n), equal(`(<= 0 ${term})`, areHex(digits)), isValue];
 }
 
-for (let start = 0; start <= 32; start++)
+for (let start = 0; start <= 41; start++)
   prove(`readHex: from ${start}`, ({ readHex }, m, path) => {
     const units = hexUnits(path, start + 4);
     const digits = units.slice(start);
     path.show = (value) => `encodeUuid(${stringOf(digits, value)} + '${'0'.repeat(28)}')`;
     const string = Object.assign(textOf(units), { length: path.unknown(BigInt(start + 4), 45n) });
-    path.prove('the value of four digits, or a negative number', isHex(termOf(m, readHex(string, start)), digits));
+    for (const term of isHex(termOf(m, readHex(string, start)), digits))
+      path.prove('the value of four digits, or a negative number', term);
   });
 
-// Whether units are a UUID, with all hyphens or none, and its number.
-function plainUuidOf(units) {
-  const isHyphen = (unit, i) => units.length === 36 && HYPHENS.includes(i);
-  const digits = units.filter((unit, i) => !isHyphen(unit, i)).map(({ hex }) => hex).reverse();
-  const areHyphens = units.filter(isHyphen).map(({ term }) => equal(term, 45));
-  return { isUuid: digits.length === 32 ? all([areHex(digits), ...areHyphens]) : 'false', number: sum(digits, 16n) };
-}
+// A unit is a character in lowercase or uppercase.
+const isCharacter = ({ term }, c) => either([c, c.toUpperCase()].map((form) => equal(term, form.charCodeAt())));
 
-// Whether units are a string in lowercase or uppercase.
-function areUnits(units, string) {
-  const forms = [string, string.toUpperCase()];
-  return all(units.map(({ term }, i) => either(forms.map((form) => equal(term, form.charCodeAt(i))))));
-}
-
+// The length tells the form: 32 digits or 36 characters, alone, in braces or after urn:uuid:.
 for (let length = 0; length <= 45; length++)
-  prove(`readUuid: ${length} characters`, ({ readUuid }, m, path) => {
+  prove(`readUuidString: ${length} characters`, ({ readUuidString }, m, path) => {
     const words = m.open('words');
     const units = hexUnits(path, length);
     m.stubs.readHex = ({ units }, start) => {
-      const digits = start >= 0 && start <= 32 ? units.slice(start, start + 4) : [];
+      const digits = start >= 0 && start <= 41 ? units.slice(start, start + 4) : [];
       const v = digits.length === 4 ? path.unknown(-power(31), power(16) - 1n) : m.fail();
-      path.assume(isHex(v.term, digits));
+      isHex(v.term, digits).forEach((term) => path.assume(term));
       return v;
     };
-    const isRead = termOf(m, readUuid(textOf(units)));
-    const forms = [['', ''], ['{', '}'], ['urn:uuid:', '']].map(([start, end]) => {
-      const [from, to] = [start.length, Math.max(0, length - end.length)];
-      const { isUuid, number } = plainUuidOf(units.slice(from, to));
-      return { number, isForm: all([isUuid, areUnits(units.slice(0, from), start), areUnits(units.slice(to), end)]) };
-    });
-    path.prove('it returns true exactly for a UUID', equal(isRead, either(forms.map(({ isForm }) => isForm))));
-    for (const { isForm, number } of forms)
-      path.prove('the words are the digits', implies(isForm, equal(sum(words, power(32)), number)));
+    const isRead = termOf(m, readUuidString(textOf(units)));
+    const [start, end] = length > 38 ? ['urn:uuid:', ''] : [34, 38].includes(length) ? ['{', '}'] : ['', ''];
+    const others = new Map([...start, ...end].map((c, i) => [i < start.length ? i : length - 1, c]));
+    if (length - others.size === 36) HYPHENS.forEach((i) => others.set(start.length + i, '-'));
+    const digits = units.filter((unit, i) => !others.has(i)).map(({ hex }) => hex).reverse();
+    const areOthers = Array.from(others, ([i, c]) => isCharacter(units[i], c));
+    const isUuid = digits.length === 32 ? all([areHex(digits), ...areOthers]) : 'false';
+    path.prove('it returns true exactly for a UUID', equal(isRead, isUuid));
+    for (const [i, { term }] of words.entries())
+      path.prove('the words are the digits', implies(isUuid, equal(term, sum(digits.slice(8 * i, 8 * i + 8), 16n))));
   });
 
 prove('readUuidBytes', ({ readUuidBytes }, m, path) => {
@@ -270,17 +262,40 @@ prove('uuidOfWords', ({ uuidOfWords }, m, path) => {
 
 // ---- Alphabets, choices and ranges
 
-prove('Alphabet: the built-in ones', (functions, m, path) => {
-  const { Alphabet, tables } = modules.natives;
-  const alternative = DIGITS.replace(/[a-z]/gi, (c) => (c < 'a' ? c.toLowerCase() : c.toUpperCase()));
-  for (const [name, characters] of [['standard', DIGITS], ['alternative', alternative]]) {
-    const codes = list(62, (i) => characters.charCodeAt(i));
-    const digits = list(129, (code) => codes.includes(code) ? codes.indexOf(code) : Infinity);
-    const pairs = list(62 ** 2, (i) => codes[Math.floor(i / 62)] + 256 * codes[i % 62]);
-    const found = tables.get(Alphabet[name]);
-    path.prove(`the digits of ${name}`, `${String(found.digits) === String(digits)}`);
-    path.prove(`the pairs of ${name}`, `${String(found.pairs) === String(pairs)}`);
-  }
+prove('Alphabet', (functions, m, path) => {
+  const { standard, alternative } = modules.natives.Alphabet;
+  const swapped = DIGITS.replace(/[a-z]/gi, (c) => (c < 'a' ? c.toLowerCase() : c.toUpperCase()));
+  path.prove('the standard one', `${standard.characters === DIGITS}`);
+  path.prove('the alternative one', `${alternative.characters === swapped}`);
+});
+
+// The codes of any alphabet, and one that it does not have.
+function alphabetOf(m, path) {
+  const [other, ...codes] = list(63, (i) => path.input(0n, i === 0 ? 128n : 127n));
+  m.assumeDistinct([other, ...codes]);
+  return [codes, (value) => `new Alphabet(${stringOf(codes, value)})`, other];
+}
+
+prove('createDigits', ({ createDigits }, m, path) => {
+  const [codes, alphabet, other] = alphabetOf(m, path);
+  const shown = () => (path.open.endsWith('others') ? [other] : codes);
+  path.show = (value) => `Array.from(${stringOf(shown(), value)}, (c) => decode(c, ${alphabet(value)}))`;
+  const digits = createDigits(textOf(codes));
+  const digitOf = (code) => m.read(['digits', ''], digits, code);
+  path.prove('its length', `${digits.length === 129}`);
+  path.prove('the digit of each code', all(codes.map((code, digit) => equal(termOf(m, digitOf(code)), digit))));
+  path.prove('it is Infinity for others', digitOf(other).infinite);
+});
+
+prove('createPairs', ({ createPairs }, m, path) => {
+  const [codes, alphabet] = alphabetOf(m, path);
+  path.show = (value) => `encode(2n ** 127n, ${alphabet(value)})`;
+  const pairs = createPairs(textOf(codes));
+  path.prove('its length', `${pairs.length === 62 ** 2}`);
+  for (const [high, { term }] of codes.entries())
+    path.prove('the codes of a pair',
+      all(codes.map((code, low) => equal(
+                      termOf(m, m.read(['pairs', ''], pairs, 62 * high + low)), `(+ ${term} (* 256 ${code.term}))`))));
 });
 
 const TYPES =
@@ -298,8 +313,9 @@ for (const [type, most, ...bounds] of TYPES)
     path.prove('it throws an error for numbers out of range', isValid);
   });
 
-// A prefix of 0 to 22 units, the number of its digits, and whether all are digits.
-function prefixOf(path) {
+// A prefix of 0 to 22 units, the number of its digits, and whether all are digits: what is proved of the functions that read
+// it, over the standard alphabet.
+function prefixOf(m, path) {
   const [length, isAll, digits] = [path.input(0n, 22n), path.input(0n, 1n), path.input(0n, 62n ** 22n - 1n)];
   path.assume(either(list(23, (i) => all([equal(length.term, i), `(< ${digits.term} ${62n ** BigInt(i)})`]))));
   const show = (value) => {
@@ -307,12 +323,8 @@ function prefixOf(path) {
     const text = list(Number(value(length)), digitAt).reverse().join('');
     return `'${value(isAll) ? text : text.replace(/.$/, '-')}'`;
   };
-  return Object.assign(textOf([]), { length, digits, areDigits: equal(1, isAll.term), show });
-}
-
-// What is proved of the functions that read a prefix, over the standard alphabet.
-function stubPrefix(m, path, prefix) {
-  const { length, digits, areDigits } = prefix;
+  const areDigits = equal(1, isAll.term);
+  const prefix = Object.assign(textOf([]), { length, digits, areDigits, show });
   let used;
   const checkGiven = (text, start, end) =>
     (text === prefix && start === 0 && end === length && used === m.values.standard) || m.fail();
@@ -325,6 +337,7 @@ function stubPrefix(m, path, prefix) {
     return index;
   };
   m.stubs.bigIntOfWords = () => integer(digits.term, 0n, digits.high, 'bigint');
+  return prefix;
 }
 
 // Whether the string of this width has the prefix: its number is that of the prefix, before `others` more digits.
@@ -339,11 +352,10 @@ function hasPrefix({ term }, width, { length, digits }) {
 
 for (const name of ['prefixRange', 'keyRange'])
   prove(name, (functions, m, path) => {
-    const prefix = prefixOf(path);
+    const prefix = prefixOf(m, path);
     const widths = name === 'keyRange' ? [] : [path.input(0n, MOST_OF_NUMBERS)];
     path.show = (value) => `${name}(${[prefix.show(value), ...widths.map(value)]})`;
     path.isError = not(prefix.areDigits);
-    stubPrefix(m, path, prefix);
     const result = functions[name](prefix, ...widths);
     path.prove('it throws an error if a character is invalid', prefix.areDigits);
     const number = path.input(0n, MOST);
@@ -389,9 +401,9 @@ const [named, proved] =
 if (named !== proved) report(`README.md names ${named}; proved are ${proved}`);
 // Most mistakes are seen on a short path.
 paths.sort((x, y) => x.lines.length - y.lines.length);
-await solve(paths, ({ name, goals, open, example }) => {
+await solve(paths, ({ name, passed: count, open, example }) => {
   if (++done % 100 === 0) console.error(`${done} of ${paths.length} paths`);
-  passed += open ? goals.indexOf(open) : goals.length;
+  passed += count;
   const shown = example ? `; in Node: Object.assign(globalThis, await import('${folder}/index.js')), ${example}` : '';
   if (open) report(`${name}: not proved: ${open}${shown}`);
   return example;

@@ -10,6 +10,7 @@ import {constant, integer, isConstant, literal, power, range, Unknown} from './p
 const EXACT = power(53);
 const least = (...values) => values.reduce((x, y) => (y < x ? y : x));
 const greatest = (...values) => values.reduce((x, y) => (y > x ? y : x));
+const not = (v) => (isUnknown(v) ? boolean(`(not ${v.term})`) : !v);
 const boolean = (term) => (/^(true|false)$/.test(term) ? term === 'true' : new Unknown({ type: 'boolean', term }));
 export const textOf = (units) => new Unknown({type: 'text', units, length: units.length});
 const isUnknown = (v) => v instanceof Unknown;
@@ -17,18 +18,24 @@ const isBig = ({ type }) => type === 'bigint';
 const isFinite = (...values) => values.every(({ infinite }) => infinite === 'false');
 const native = (operator) => new Function('a', 'b', `return a ${operator} b`);
 
+// One of two Numbers.
+function choose(m, condition, a, b) {
+  const either = (x, y) => (x === y ? x : `(ite ${condition} ${x} ${y})`);
+  const term = m.path.define(either(a.term, b.term));
+  return integer(term, least(a.low, b.low), greatest(a.high, b.high), 'number', either(a.infinite, b.infinite));
+}
+
 // ---- Operators. The operands are two Numbers or two BigInts, of which one is unknown.
 
-// A result of Numbers is exact if it is within 2**53. This is the goal, with its bounds, which are among the results of the
-// bounds. Infinity plus any number is Infinity. BigInts are exact.
+// A result of Numbers is exact if it is within 2**53, which is a goal where the bounds do not show it. Infinity plus any
+// number is Infinity. BigInts are exact.
 function arithmetic(m, operator, a, b) {
-  const define = () => m.path.define(`(${operator} ${a.term} ${b.term})`);
-  if (isBig(a)) return integer(define(), undefined, undefined, 'bigint');
+  const term = m.path.define(`(${operator} ${a.term} ${b.term})`);
+  if (isBig(a)) return integer(term, undefined, undefined, 'bigint');
   const results = [a.low, a.high].flatMap((x) => [b.low, b.high].map((y) => native(operator)(x, y)));
-  const [low, high] = [greatest(least(...results), -EXACT), least(greatest(...results), EXACT)];
-  const v = integer(define(), low, high, 'number', isFinite(a, b) ? 'false' : `(or ${a.infinite} ${b.infinite})`);
-  m.goal(`${operator} is exact`, range(v.term, low, high));
-  return v;
+  const infinite = isFinite(a, b) ? 'false' : `(or ${a.infinite} ${b.infinite})`;
+  return m.within(
+    `${operator} is exact`, integer(term, least(...results), greatest(...results), 'number', infinite), -EXACT, EXACT);
 }
 
 // Infinity minus Infinity would be NaN.
@@ -36,7 +43,7 @@ const subtract = (m, operator, a, b) => (isFinite(b) ? arithmetic(m, operator, a
 
 // By a constant. Infinity times one above 0 is Infinity.
 function multiply(m, operator, a, b) {
-  const [factor, other] = isConstant(b) ? [b, a] : [a, b];
+  const factor = isConstant(b) ? b : a;
   const isKnown = isConstant(factor) && (isBig(a) || factor.low > 0n);
   return isKnown ? arithmetic(m, operator, a, b) : m.fail();
 }
@@ -44,16 +51,15 @@ function multiply(m, operator, a, b) {
 // By a constant. README.md shows that the integer part is exact if the dividend is from 0 to 2**53.
 function divide(m, operator, a, b) {
   if (isBig(a) || !isConstant(b) || b.low < 1n) m.fail();
-  m.goal('a quotient of a number from 0 to 2**53', range(a.term, 0n, EXACT));
-  const [{ term, low, high }] = m.path.divide(a, b.low);
+  const [{ term, low, high }] = m.path.divide(m.within('a quotient of a number from 0 to 2**53', a, 0n, EXACT), b.low);
   return integer(term, low, high, 'quotient', a.infinite);
 }
 
 // ToInt32, ToUint32 and the like: the integer part modulo 2**bits, which is 0 for Infinity.
 function modulo(m, v, bits, isSigned = false) {
-  const [, rest] = m.path.divide(v, power(bits), isSigned ? -power(bits - 1) : 0n);
-  if (isFinite(v)) return integer(rest.term, rest.low, rest.high, isBig(v) ? 'bigint' : 'number');
-  return integer(m.path.define(`(ite ${v.infinite} 0 ${rest.term})`), least(0n, rest.low), greatest(0n, rest.high));
+  const [, { term, low, high }] = m.path.divide(v, power(bits), isSigned ? -power(bits - 1) : 0n);
+  const rest = integer(term, low, high, isBig(v) ? 'bigint' : 'number');
+  return isFinite(v) ? rest : choose(m, v.infinite, constant(0n), rest);
 }
 
 // By a constant 2**k - 1 below 2**31: modulo 2**k, which divides 2**32.
@@ -62,21 +68,13 @@ function bitwiseAnd(m, operator, a, b) {
   return !isBig(a) && /^1{1,31}$/.test(mask) ? modulo(m, a, mask.length) : m.fail();
 }
 
-// Of a multiple of 2**k and a number from 0 to 2**k - 1: the sum. In any case is known when the result is 0, when it is
-// negative, and that it is at most the sum of two that are not.
+// Of a multiple of 2**k and a number from 0 to 2**k - 1, which is a goal: the sum.
 function bitwiseOr(m, operator, a, b) {
+  const [{ zeros = 0 }, { zeros: others = 0 }] = [a, b];
+  if (zeros < others) return bitwiseOr(m, operator, b, a);
   const [x, y] = isBig(a) ? [a, b] : [modulo(m, a, 32, true), modulo(m, b, 32, true)];
-  if (isConstant(y) && y.low === 0n) return x;
-  const [k, l] = [a, b].map(({ zeros = 0 }) => zeros);
-  if (y.low >= 0n && y.high < power(k)) return Object.assign(arithmetic(m, '+', x, y), { zeros: least(k, l) });
-  const sum = `(+ ${x.term} ${y.term})`;
-  const bounds = x.low >= 0n && y.low >= 0n ? [0n, x.high + y.high] : [-power(31), power(31) - 1n];
-  const v = isBig(a) ? m.path.unknown(undefined, undefined, 'bigint') : m.path.unknown(...bounds);
-  m.path.assume(`(= (= ${v.term} 0) (and (= ${x.term} 0) (= ${y.term} 0)))`);
-  m.path.assume(`(= (< ${v.term} 0) (or (< ${x.term} 0) (< ${y.term} 0)))`);
-  m.path.assume(`(=> ${range(x.term, 0n, power(l) - 1n)} (= ${v.term} ${sum}))`);
-  m.path.assume(`(=> ${range(y.term, 0n, power(k) - 1n)} (= ${v.term} ${sum}))`);
-  return Object.assign(v, { zeros: least(k, l) });
+  const low = m.within('the operands of | have no common bit', y, 0n, power(zeros) - 1n);
+  return Object.assign(arithmetic(m, '+', x, low), { zeros: others });
 }
 
 const shiftCount = (m, a, b) =>
@@ -95,46 +93,42 @@ function shiftRight(m, operator, a, b) {
   return m.path.divide(isBig(a) ? a : modulo(m, a, 32, operator === '>>'), power(shiftCount(m, a, b)))[0];
 }
 
-// Nothing is greater than Infinity. The bounds may decide it.
-function less(m, operator, a, b) {
-  const isLess = native(operator);
-  const areKnown = a.low !== undefined && b.low !== undefined && isLess(a.high, b.low) === isLess(a.low, b.high);
-  const term = areKnown ? `${isLess(a.high, b.low)}` : `(${operator} ${a.term} ${b.term})`;
-  if (isFinite(a, b)) return boolean(term);
-  const toInfinity = `(and ${b.infinite} ${operator === '<=' || `(not ${a.infinite})`})`;
-  return boolean(`(or ${toInfinity} (and (not ${a.infinite}) (not ${b.infinite}) ${term}))`);
-}
-
-function equal(m, operator, a, b) {
-  const term = a.high < b.low || b.high < a.low ? 'false' : `(= ${a.term} ${b.term})`;
-  return isFinite(a, b) ? boolean(term) : m.fail();
+// Infinity is above all numbers. The bounds may decide it.
+const orInfinity = (v) => (isFinite(v) ? v.term : `(ite ${v.infinite} ${EXACT + 1n} ${v.term})`);
+function compare(m, operator, a, b) {
+  const holds = native(operator);
+  const isKnown = isFinite(a, b) && a.low !== undefined && b.low !== undefined &&
+    holds(a.high, b.low) === holds(a.low, b.high) && (operator !== '===' || a.high < b.low || b.high < a.low);
+  const smt = operator === '===' ? '=' : operator;
+  return boolean(isKnown ? `${holds(a.low, b.high)}` : `(${smt} ${orInfinity(a)} ${orInfinity(b)})`);
 }
 
 const OPERATORS = new Map([
   ['+', arithmetic], ['-', subtract], ['*', multiply], ['/', divide], ['&', bitwiseAnd], ['|', bitwiseOr],
-  ['<<', shiftLeft], ['>>', shiftRight], ['>>>', shiftRight], ['<', less], ['<=', less], ['===', equal],
-  ['>', (m, operator, a, b) => less(m, '<', b, a)], ['>=', (m, operator, a, b) => less(m, '<=', b, a)],
-  ['!==', (m, operator, a, b) => m.unary(m.at, '!', equal(m, operator, a, b))]
+  ['<<', shiftLeft], ['>>', shiftRight], ['>>>', shiftRight], ['<', compare], ['<=', compare], ['===', compare],
+  ['>', (m, operator, a, b) => compare(m, '<', b, a)], ['>=', (m, operator, a, b) => compare(m, '<=', b, a)],
+  ['!==', (m, operator, a, b) => not(compare(m, '===', a, b))]
 ]);
 
 // ---- Functions of the language, of unknown values
 
+const isNumeric = ({ type }) => /^(number|quotient)$/.test(type);
+const isNumber = ({ type }) => type === 'number';
+const isFiniteNumber = (v) => isNumber(v) && isFinite(v);
+
 function minimum(m, a, b, ...others) {
   const most = m.known(b);
-  if (others.length > 0 || a.type !== 'number' || !isFinite(a) || most.type !== 'number' || !isConstant(most)) m.fail();
-  const term = m.path.define(`(ite (<= ${a.term} ${most.term}) ${a.term} ${most.term})`);
-  return integer(term, least(a.low, most.low), least(a.high, most.low));
+  if (others.length > 0 || !isFiniteNumber(a) || !isFiniteNumber(most) || !isConstant(most)) m.fail();
+  const v = choose(m, `(<= ${a.term} ${most.term})`, a, most);
+  return Object.assign(v, { high: most.low });
 }
 
 // Of a Number that is no such integer, a double, nothing else is known.
 function isSafeInteger(m, v) {
   if (v.type === 'quotient') m.fail();
-  if (v.type !== 'number') return false;
-  const isSafe = `(and (not ${v.infinite}) ${range(v.term, 1n - EXACT, EXACT - 1n)})`;
-  return isFinite(v) && v.low > -EXACT && v.high < EXACT ? true : boolean(isSafe);
+  return v.type === 'number' && boolean(`(and (not ${v.infinite}) ${range(v.term, 1n - EXACT, EXACT - 1n)})`);
 }
 
-const isNumeric = ({ type }) => /^(number|quotient)$/.test(type);
 const floor = (m, v) => (isNumeric(v) ? integer(v.term, v.low, v.high, 'number', v.infinite) : m.fail());
 const fromCharCode = (m, ...units) =>
   textOf(units.map(m.known, m).map((unit) => (isNumeric(unit) ? modulo(m, unit, 16) : m.fail())));
@@ -145,63 +139,47 @@ const unitsOf = (m, { type, units, length }) => (type === 'text' && units.length
 const slice = (m, text, ...ends) => ends.every(Number.isInteger) ? textOf(unitsOf(m, text).slice(...ends)) : m.fail();
 const unitAt = (m, { type, units }, i) =>
   (type === 'text' && typeof i === 'number' ? units[Math.trunc(i)] : undefined) ?? m.fail();
-
-// Whether the units are those of a string, or one of several for each character.
-function areUnits(m, units, string, codesOf = (character) => [character.charCodeAt(0)]) {
-  if (units.length !== string.length) return false;
-  const isOne = ({ term }, codes) => `(or false ${codes.map((code) => `(= ${term} ${code})`).join(' ')})`;
-  return boolean(`(and true ${units.map((unit, i) => isOne(m.known(unit), codesOf(string[i]))).join(' ')})`);
-}
-
-const oneString = (m, values) => values.length === 1 && typeof values[0] === 'string' ? values[0] : m.fail();
-function startsWith(m, text, ...values) {
-  const string = oneString(m, values);
-  return areUnits(m, unitsOf(m, text).slice(0, string.length), string);
-}
-function endsWith(m, text, ...values) {
-  const string = oneString(m, values);
-  return areUnits(m, unitsOf(m, text).slice(Math.max(0, text.length - string.length)), string);
-}
-
-// What others are depends on their neighbors only for letters that are not ASCII in any case.
-const LOWERCASE = new Map();
-for (let code = 0; code < 65536; code++) {
-  const lowercase = String.fromCharCode(code).toLowerCase();
-  LOWERCASE.set(lowercase, [...LOWERCASE.get(lowercase) ?? [], code]);
-}
 const toLowerCase = (m, text) => new Unknown({ type: 'lowercase', units: unitsOf(m, text) });
-const isLowercase = (m, { units }, string) =>
-  (/^[\0-\x7f]*$/.test(string) ? areUnits(m, units, string, (character) => LOWERCASE.get(character) ?? []) : m.fail());
+
+// Of units that are not ASCII only one has a lowercase form that is: U+212A has k.
+function isLowercase(m, { units }, string) {
+  if (!/^[a-jl-z:]*$/.test(string)) m.fail();
+  const isOne = ({ term }, c) => `(or (= ${term} ${c.charCodeAt()}) (= ${term} ${c.toUpperCase().charCodeAt()}))`;
+  return units.length === string.length &&
+    boolean(`(and true ${units.map((unit, i) => isOne(m.known(unit), string[i])).join(' ')})`);
+}
 
 export const charCodeAt = (string, i) => string.charCodeAt(i);
 const CALLS = new Map([
   [Math.floor, floor], [Math.min, minimum], [Number.isSafeInteger, isSafeInteger], [String.fromCharCode, fromCharCode],
   [charCodeAt, unitAt]
 ]);
-const METHODS = {
-  __proto__: null,
-  charCodeAt: unitAt,
-  endsWith,
-  slice,
-  startsWith,
-  toLowerCase
-};
+const METHODS = new Map(Object.entries({ charCodeAt: unitAt, fill, slice, toLowerCase }));
 
-// ---- Typed arrays. Those of a buffer share its cells, which are as wide as the elements of the narrowest of them.
+// ---- Typed arrays. Those of a buffer share its cells, which are as wide as the elements of the narrowest of them. What a
+// function creates has a list of stores instead, each with its index, once one of them is not known.
 
 export const arrayOf = (cells, bits, kind = 'Uint', length = cells.length) =>
   new Unknown({type: 'array', cells, bits, kind, length});
 const isIndex = (index, { length }) => Number.isInteger(index) && index >= 0 && index < length;
 
-// An index that is not known is for a table: an array of constants, or one with a `lookup`.
+function unknownIndex(m, { length }, index) {
+  const i = m.known(index);
+  if (!isFiniteNumber(i)) m.fail();
+  return m.within('an index in the array', i, 0n, BigInt(length) - 1n);
+}
+
+// An index that is not known is for a table, or an array with a `lookup`.
 function readElement(m, array, index) {
-  const { cells, bits, kind, length, lookup } = array;
-  if (isUnknown(index) || lookup) {
-    const i = m.known(index);
-    const isTable = lookup || (bits === cells.bits && cells.every(Number.isInteger));
-    if (!isTable || i.type !== 'number' || !isFinite(i)) m.fail();
-    m.goal('an index in the array', range(i.term, 0n, BigInt(length) - 1n));
-    return lookup ? lookup(i) : fromTable(m, cells.map(BigInt), i);
+  const { cells, bits, kind, lookup } = array;
+  if (isUnknown(index) || lookup || cells.stores?.length > 0) {
+    const i = unknownIndex(m, array, index);
+    if (lookup) return lookup(i);
+    if (bits !== cells.bits) m.fail();
+    // Of the stores from the last one on, the first whose index may be this one has to have just this one.
+    const isOther = ([j]) => [i, j].every(({ term }) => m.distinct.has(term)) && i.term !== j.term;
+    const [j, v] = cells.stores?.findLast((stored) => !isOther(stored)) ?? [i, fromTable(m, cells, i)];
+    return j.term === i.term ? v : m.fail();
   }
   if (!isIndex(index, array)) m.fail();
   const width = bits / cells.bits;
@@ -213,7 +191,10 @@ function readElement(m, array, index) {
 }
 
 // One piece for each run of values that are equal, or of which each is one more than the one before.
-function fromTable(m, values, index) {
+function fromTable(m, cells, index) {
+  if (cells.every((cell) => cell === cells[0])) return m.known(cells[0]);
+  if (!cells.every(Number.isInteger)) m.fail();
+  const values = cells.map(BigInt);
   let term = '0';
   for (let end = values.length - 1, i = end; end >= 0; end = --i) {
     const step = end > 0 && values[end] - values[end - 1] === 1n ? 1n : 0n;
@@ -226,40 +207,123 @@ function fromTable(m, values, index) {
 
 // Each element of a list is a path of its own.
 function readList(m, list, index) {
-  if (index.type !== 'number' || !isFinite(index)) m.fail();
-  m.goal('an index in the list', range(index.term, 0n, BigInt(list.length) - 1n));
-  const isLast = (i) => i === Math.min(Number(index.high), list.length - 1);
-  return list.find((v, i) => i >= index.low && (isLast(i) || m.path.decide(`(= ${index.term} ${i})`)));
+  const i = unknownIndex(m, list, index);
+  const last = Math.min(Number(i.high), list.length - 1);
+  return list.find((v, j) => j >= i.low && (j === last || m.path.decide(`(= ${i.term} ${j})`)));
 }
 
-// An element keeps a value modulo 2**bits.
+// An element keeps a value modulo 2**bits, or if it is a double the value.
 function storeElement(m, array, index, v) {
   const { cells, bits, kind } = array;
-  const holds = { Int: isNumeric, Uint: isNumeric, BigUint: isBig }[kind];
-  if (!cells.areOpen || !isIndex(index, array) || !holds?.(v)) m.fail();
+  const holds = { Float: isNumber, Int: isNumeric, Uint: isNumeric, BigUint: isBig }[kind];
+  if (!cells.areOpen || !holds?.(v)) m.fail();
+  let rest = kind === 'Float' ? v : modulo(m, v, bits, kind === 'Int');
+  if (cells.stores && (isUnknown(index) || cells.stores.length > 0))
+    return cells.stores.push([unknownIndex(m, array, index), rest]);
+  if (!isIndex(index, array)) m.fail();
   const width = bits / cells.bits;
-  let rest = modulo(m, v, bits, kind === 'Int');
   for (let i = index * width; i < (index + 1) * width; i++) {
-    const [higher, { term, low, high }] = width === 1 ? [rest, rest] : m.path.divide(rest, power(cells.bits));
-    cells[i] = integer(term, low, high);
+    const [higher, { term, low, high }] = m.path.divide(rest, power(cells.bits));
+    cells[i] = width === 1 ? rest : integer(term, low, high);
     rest = higher;
   }
 }
 
-// ---- The machine runs functions on a path.
+// Writes a value to all elements.
+function fill(m, array, ...values) {
+  if (values.length !== 1) m.fail();
+  const v = m.known(values[0]);
+  for (let i = 0; i < array.length; i++) storeElement(m, array, i, v);
+  return array;
+}
+
+// ---- The rules of forms
 
 const TYPES = new Map(Object.entries({ text: 'string', array: 'object', bigint: 'bigint' }));
 for (const type of ['number', 'quotient', 'double']) TYPES.set(type, 'number');
+
+const RULES = {
+  // In a bitwise operator a quotient is a Number. '' + string is the string.
+  binary(m, operator, x, y) {
+    if (!isUnknown(x) && !isUnknown(y)) return typeof x === typeof y ? native(operator)(x, y) : m.fail();
+    if (x === '' && operator === '+' && y.type === 'text') return y;
+    if (x?.type === 'lowercase' && operator === '===' && typeof y === 'string') return isLowercase(m, x, y);
+    const [a, b] = [m.known(x), m.known(y)];
+    const types =
+      [a, b].map(({ type }) => (type === 'quotient' && /^([&|]|<<|>>>?)$/.test(operator) ? 'number' : type));
+    const isKnown = types[0] === types[1] && /^(number|bigint)$/.test(types[0]) && OPERATORS.has(operator);
+    return isKnown ? OPERATORS.get(operator)(m, operator, a, b) : m.fail();
+  },
+
+  unary(m, operator, v) {
+    if (operator === 'typeof') return isUnknown(v) ? TYPES.get(v.type) ?? m.fail() : typeof v;
+    if (operator === '-' && !isUnknown(v)) return -v;
+    return operator === '!' && (!isUnknown(v) || v.type === 'boolean') ? not(v) : m.fail();
+  },
+
+  // Whether a condition holds on this path.
+  holds(m, v) {
+    if (++m.steps > 10_000) throw new Error(`${m.at[0]}: more than 10000 conditions`);
+    if (!isUnknown(v)) return Boolean(v);
+    return v.type === 'boolean' ? m.path.decide(v.term) : m.fail();
+  },
+  and: (m, left, right) => (RULES.holds(m, left) ? right() : !isUnknown(left) && left),
+  or: (m, left, right) => (RULES.holds(m, left) ? isUnknown(left) || left : right()),
+
+  read(m, object, index) {
+    if (isUnknown(object) && object.type === 'array') return readElement(m, object, index);
+    if (Array.isArray(object) && isUnknown(index)) return readList(m, object, index);
+    return isUnknown(object) || isUnknown(index) ? m.fail() : object[index] ?? m.fail();
+  },
+
+  store(m, array, index, value) {
+    if (array?.type !== 'array') m.fail();
+    storeElement(m, array, index, m.known(value));
+    return value;
+  },
+
+  member: (m, object, name) => (name === 'length' || object === String ? object[name] : undefined) ?? m.fail(),
+
+  create(m, Type, ...values) {
+    if (![Float64Array, Uint16Array].includes(Type) || values.length !== 1 || !Number.isInteger(values[0])) m.fail();
+    const array = m.copy(new Type(values[0]));
+    Object.assign(array.cells, { areOpen: true, stores: [] });
+    return array;
+  },
+
+  // A function of the modules, one with a rule, or one of Node with known values.
+  call(m, f, self, ...values) {
+    const isOwn = m.functions[f.name] === f;
+    if (isOwn && m.stubs[f.name]) {
+      const result = values.length === f.length ? m.stubs[f.name](...values) : undefined;
+      return result === undefined ? m.fail() : result;
+    }
+    if (isOwn || (f === Array.prototype.push && Array.isArray(self))) return f.apply(self, values);
+    if (!CALLS.has(f)) m.fail();
+    return values.some(isUnknown) ? CALLS.get(f)(m, ...values) : f(...values);
+  },
+  method(m, object, name, ...values) {
+    if (!isUnknown(object)) return RULES.call(m, object[name], object, ...values);
+    return METHODS.has(name) ? METHODS.get(name)(m, object, ...values) : m.fail();
+  }
+};
+
+// ---- The machine runs functions on a path.
+
 export const THROWN = Symbol('an error');
 
 export class Machine {
   thrown = THROWN;
+  unused = new Unknown({});
   steps = 0;
   stubs = { __proto__: null };
+  distinct = new Set();
   buffers = new Map();
 
   constructor({ code, values, names, tables }, path) {
     this.path = path;
+    for (const [name, rule] of Object.entries(RULES))
+      this[name] = (at, ...given) => rule(Object.assign(this, { at }), ...given);
     const widths = ([, x], [, y]) => (x?.BYTES_PER_ELEMENT ?? 0) - (y?.BYTES_PER_ELEMENT ?? 0);
     this.values = Object.fromEntries(Object.entries(values).sort(widths).map(([name, v]) => [name, this.copy(v)]));
     // What is no table is not known, unless a proof opens it.
@@ -282,104 +346,37 @@ export class Machine {
     return arrayOf(cells, bits, kind, value.length);
   }
 
-  // Lets functions read an array, which has any elements.
-  fill(name) {
+  // Lets functions read an array, which has any elements, or write it too.
+  fill(name, areOpen = false) {
     const { cells, bits, kind } = this.values[name];
+    cells.areOpen = areOpen;
     const low = kind === 'Int' ? -power(bits - 1) : 0n;
     cells.forEach((cell, i) => cells[i] = this.path.input(low, low + power(bits) - 1n));
     return cells;
   }
 
-  // Lets functions write it too.
-  open(name) {
-    this.values[name].cells.areOpen = true;
-    return this.fill(name);
+  open(name) { return this.fill(name, true); }
+
+  // Assumes that no two values are the same.
+  assumeDistinct(values) {
+    const terms = values.map(({ term }) => term);
+    this.path.assume(`(distinct ${terms.join(' ')})`);
+    this.distinct = new Set(terms);
   }
 
   fail([place, text] = this.at) { throw new Error(`${place}: no rule for \`${text}\``); }
-  goal(goal, term) { this.path.prove(`${this.at[0]}: ${goal}: \`${this.at[1]}\``, term); }
+
+  // An integer, of which is proved that it has these bounds. Bounds of its own may show it.
+  within(goal, v, low, high) {
+    if (v.low >= low && v.high <= high) return v;
+    this.path.prove(`${this.at[0]}: ${goal}: \`${this.at[1]}\``, range(v.term, low, high));
+    return Object.assign(new Unknown(v), { low: greatest(v.low ?? low, low), high: least(v.high ?? high, high) });
+  }
 
   // A known Number or BigInt as an unknown one. -0 is an error, since a result can be told from 0.
   known(v) {
     if (v === Infinity) return integer('0', 0n, 0n, 'number', 'true');
     if (typeof v === 'bigint') return constant(v, 'bigint');
     return isUnknown(v) ? v : Number.isSafeInteger(v) && !Object.is(v, -0) ? constant(BigInt(v)) : this.fail();
-  }
-
-  // In a bitwise operator a quotient is a Number. '' + string is the string.
-  binary(at, operator, x, y) {
-    this.at = at;
-    if (!isUnknown(x) && !isUnknown(y)) return native(operator)(x, y);
-    if (x === '' && operator === '+' && y.type === 'text') return y;
-    if (x?.type === 'lowercase' && operator === '===' && typeof y === 'string') return isLowercase(this, x, y);
-    const [a, b] = [this.known(x), this.known(y)];
-    const types =
-      [a, b].map(({ type }) => (type === 'quotient' && /^([&|]|<<|>>>?)$/.test(operator) ? 'number' : type));
-    const isKnown = types[0] === types[1] && /^(number|bigint)$/.test(types[0]) && OPERATORS.has(operator);
-    return isKnown ? OPERATORS.get(operator)(this, operator, a, b) : this.fail();
-  }
-
-  unary(at, operator, v) {
-    this.at = at;
-    if (operator === 'typeof') return isUnknown(v) ? TYPES.get(v.type) ?? this.fail() : typeof v;
-    if (operator === '-' && !isUnknown(v)) return -v;
-    if (operator !== '!' || (isUnknown(v) && v.type !== 'boolean')) this.fail();
-    return isUnknown(v) ? boolean(`(not ${v.term})`) : !v;
-  }
-
-  // Whether a condition holds on this path.
-  holds(at, v) {
-    this.at = at;
-    if (++this.steps > 10_000) throw new Error(`${at[0]}: more than 10000 conditions`);
-    if (!isUnknown(v)) return Boolean(v);
-    return v.type === 'boolean' ? this.path.decide(v.term) : this.fail();
-  }
-
-  and(at, left, right) { return this.holds(at, left) ? right() : isUnknown(left) ? false : left; }
-  or(at, left, right) { return !this.holds(at, left) ? right() : isUnknown(left) ? true : left; }
-
-  read(at, object, index) {
-    this.at = at;
-    if (isUnknown(object) && object.type === 'array') return readElement(this, object, index);
-    if (Array.isArray(object) && isUnknown(index)) return readList(this, object, index);
-    return isUnknown(object) || isUnknown(index) ? this.fail() : object[index] ?? this.fail();
-  }
-
-  store(at, array, index, value) {
-    this.at = at;
-    if (!isUnknown(array) || array.type !== 'array') this.fail();
-    storeElement(this, array, index, this.known(value));
-    return value;
-  }
-
-  member(at, object, name) {
-    this.at = at;
-    if (isUnknown(object)) return (name === 'length' ? object.length : undefined) ?? this.fail();
-    return [Math, Number, String].includes(object) || (Array.isArray(object) && name === 'length') ? object[name] :
-                                                                                                     this.fail();
-  }
-
-  // A function of the modules, one with a rule, or one of Node with known values.
-  call(at, f, self, values) {
-    this.at = at;
-    const isOwn = this.functions[f.name] === f;
-    if (isOwn && this.stubs[f.name]) {
-      const result = values.length === f.length ? this.stubs[f.name](...values) : undefined;
-      return result === undefined ? this.fail() : result;
-    }
-    if (isOwn || (f === Array.prototype.push && Array.isArray(self))) return f.apply(self, values);
-    if (!CALLS.has(f)) this.fail();
-    return values.some(isUnknown) ? CALLS.get(f)(this, ...values) : f(...values);
-  }
-
-  method(at, object, name, values) {
-    this.at = at;
-    if (!isUnknown(object)) return this.call(at, object[name], object, values);
-    return METHODS[name] ? METHODS[name](this, object, ...values) : this.fail();
-  }
-
-  number(at, v) {
-    this.at = at;
-    return typeof v === 'number' || v?.type === 'number' ? v : this.fail();
   }
 }

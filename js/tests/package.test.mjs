@@ -151,12 +151,6 @@ test('a script of a page has one name, inherits nothing from Object.prototype, a
     () => pageAfter('Uint16Array.of = () => Uint8Array.of(0, 1)'), /base62-proved needs a little-endian processor$/);
 });
 
-test('in Turkish urn:uuid: is the same', () => {
-  const { base62: inPage } = pageAfter(
-    "String.prototype.toLocaleLowerCase = function() { return this.toLowerCase().replaceAll('i', '\u0131'); };");
-  assert.equal(inPage.encodeUuid('URN:UUID:00000000-0000-0000-0000-000000000539'), 'LZ');
-});
-
 test('a runtime without WebAssembly and without a compiler has all functions', () => {
   const start = (option, ...others) => spawnSync(process.execPath, [option, ...others], { env: {}, encoding: 'utf8' });
   // Some versions of Node have no such option, but --jitless leaves WebAssembly out too.

@@ -6,16 +6,9 @@
 #include "_base62.h"
 #include "_docstrings.h"
 
-PyObject *borrow(struct state *state, int which) {
-    PyObject *object = state->objects[which];
-    if (object == NULL) PyErr_SetString(PyExc_SystemError, "the module is cleared");
-    return object;
-}
-
 /* Converts an argument of an uncommon type by a function of base62._types. */
 PyObject *convert(struct state *state, int converter, PyObject *argument) {
-    PyObject *function = borrow(state, converter);
-    return function == NULL ? NULL : PyObject_CallFunctionObjArgs(function, argument, NULL);
+    return PyObject_CallFunctionObjArgs(state->objects[converter], argument, NULL);
 }
 
 /* Other threads run while the library reads or writes this many bytes or more. */
@@ -29,14 +22,24 @@ static void restore_gil(PyThreadState *saved) {
     if (saved != NULL) PyEval_RestoreThread(saved);
 }
 
+/* The first parameter has a name, and then there is perhaps a width, and perhaps an alphabet, which is optional. */
 struct parameters {
     const char *format, *names[4];
     Py_ssize_t least, most;
 };
 
+#define OF_KEYS(name, first) "O:" name, {first, NULL}, 1, 1
+#define OF_ALL(name, first) "O|O:" name, {first, "alphabet", NULL}, 1, 2
+#define OF_WIDTHS(name, first) "OO|O:" name, {first, "width", "alphabet", NULL}, 2, 3
+
+/* Borrowed from the caller. What is not given is NULL. */
+struct arguments {
+    PyObject *first, *width, *alphabet;
+};
+
 /* PyArg_ParseTupleAndKeywords handles keywords and wrong argument counts, and raises the exceptions. */
 static int parse(const struct parameters *signature, PyObject *const *args, Py_ssize_t nargs, PyObject *kwnames,
-                 PyObject *arguments[3]) {
+                 struct arguments *given) {
     Py_ssize_t named = kwnames == NULL ? 0 : PyTuple_Size(kwnames);
     PyObject *tuple = named < 0 ? NULL : PyTuple_New(nargs), *dict = tuple == NULL ? NULL : PyDict_New();
     int ok = dict != NULL;
@@ -45,29 +48,27 @@ static int parse(const struct parameters *signature, PyObject *const *args, Py_s
         PyObject *name = PyTuple_GetItem(kwnames, i);
         ok = name != NULL && PyDict_SetItem(dict, name, args[nargs + i]) == 0;
     }
-    arguments[0] = arguments[1] = arguments[2] = NULL;
-    ok = ok && PyArg_ParseTupleAndKeywords(tuple, dict, signature->format, (char **)signature->names, &arguments[0],
-                                           &arguments[1], &arguments[2]);
+    ok = ok && PyArg_ParseTupleAndKeywords(tuple, dict, signature->format, (char **)signature->names, &given->first,
+                                           signature->most == 3 ? &given->width : &given->alphabet, &given->alphabet);
     Py_DecRef(tuple);
     Py_DecRef(dict);
     return ok ? 0 : -1;
 }
 
-/* Borrows the arguments from the caller. */
 static inline int unpack(const struct parameters *signature, PyObject *const *args, Py_ssize_t nargs, PyObject *kwnames,
-                         PyObject *arguments[3]) {
+                         struct arguments *given) {
+    *given = (struct arguments){NULL, NULL, NULL};
     if (kwnames != NULL || nargs < signature->least || nargs > signature->most)
-        return parse(signature, args, nargs, kwnames, arguments);
-    arguments[0] = args[0];
-    arguments[1] = nargs > 1 ? args[1] : NULL;
-    arguments[2] = nargs > 2 ? args[2] : NULL;
+        return parse(signature, args, nargs, kwnames, given);
+    given->first = args[0];
+    if (signature->most == 3) given->width = args[1];
+    if (signature->most > 1 && nargs == signature->most) given->alphabet = args[nargs - 1];
     return 0;
 }
 
 /* Raises an exception with a message, or with a tuple of arguments, to which it steals the reference. It may be NULL. */
 static void raise_error(struct state *state, int error, PyObject *arguments) {
-    PyObject *type = arguments == NULL ? NULL : borrow(state, error);
-    if (type != NULL) PyErr_SetObject(type, arguments);
+    if (arguments != NULL) PyErr_SetObject(state->objects[error], arguments);
     Py_DecRef(arguments);
 }
 
@@ -120,8 +121,7 @@ static int number_of_int_or_raise(struct state *state, PyObject *integer, base62
 }
 
 static PyObject *int_or_raise(struct state *state, PyObject *argument) {
-    PyTypeObject *type = Py_TYPE(argument), *uuid = (PyTypeObject *)borrow(state, UUID);
-    if (uuid == NULL) return NULL;
+    PyTypeObject *type = Py_TYPE(argument), *uuid = (PyTypeObject *)state->objects[UUID];
     if (type != uuid && PyIndex_Check(argument) && !PyType_IsSubtype(type, uuid)) return PyNumber_Index(argument);
     return uuid_int_or_raise(state, argument, "a number is an int, has __index__, or is a uuid.UUID");
 }
@@ -142,9 +142,12 @@ static int raise_for_width(PyObject *argument) {
     return -1;
 }
 
-/* A width above PY_SSIZE_T_MAX becomes PY_SSIZE_T_MAX: no string is so long, so no call has another result. */
+/* Without an argument it is that of keys. A width above PY_SSIZE_T_MAX becomes PY_SSIZE_T_MAX: no string is so long, so no
+   call has another result. */
 static inline Py_ALWAYS_INLINE int width_or_raise(PyObject *argument, size_t *width) {
     int overflow = 0;
+    *width = BASE62_KEY_LENGTH;
+    if (argument == NULL) return 0;
     long long number = PyLong_CheckExact(argument) ? PyLong_AsLongLongAndOverflow(argument, &overflow)
                                                    : PyNumber_AsSsize_t(argument, NULL);
     if (overflow > 0 || number > PY_SSIZE_T_MAX) number = PY_SSIZE_T_MAX;
@@ -180,8 +183,7 @@ int text_or_raise(struct state *state, PyObject *argument, struct text *text) {
 
 /* Borrows the fields of an Alphabet. From characters it creates such fields in *storage. */
 const struct alphabet *alphabet_or_raise(struct state *state, PyObject *argument, struct alphabet *storage) {
-    PyObject *object = argument == NULL ? borrow(state, STANDARD) : argument;
-    if (object == NULL) return NULL;
+    PyObject *object = argument == NULL ? state->objects[STANDARD] : argument;
     if ((PyObject *)Py_TYPE(object) == state->objects[ALPHABET] && state->has_fields) return fields_of(state, object);
     PyObject *characters = characters_or_raise(state, object, storage);
     Py_DecRef(characters);
@@ -239,30 +241,18 @@ static PyObject *raise_for_text(struct state *state, base62_status status, base6
     return NULL;
 }
 
-/* Defines a call with these parameters. The expression of its result has the state and the arguments. */
-#define DEFINE_CALL(name, format, least, most, result, ...)                                                            \
-    static PyObject *name(PyObject *module, PyObject *const *args, Py_ssize_t nargs, PyObject *kwnames) {              \
-        static const struct parameters signature = {format ":" #name, {__VA_ARGS__, NULL}, least, most};               \
-        struct state *state = PyModule_GetState(module);                                                               \
-        PyObject *arguments[3];                                                                                        \
-        return unpack(&signature, args, nargs, kwnames, arguments) == 0 ? result : NULL;                               \
-    }
-
 typedef int read_number(struct state *, PyObject *, base62_number *);
 
-static inline PyObject *encode_or_raise(read_number *read, struct state *state, PyObject *const arguments[3]) {
+static inline PyObject *encode_or_raise(read_number *read, struct state *state, const struct arguments *given) {
     base62_number number;
     struct alphabet storage;
-    if (read(state, arguments[0], &number) != 0) return NULL;
-    const struct alphabet *alphabet = ascii_alphabet_or_raise(state, arguments[1], &storage);
+    if (read(state, given->first, &number) != 0) return NULL;
+    const struct alphabet *alphabet = ascii_alphabet_or_raise(state, given->alphabet, &storage);
     if (alphabet == NULL) return NULL;
     char text[BASE62_MAX_DIGITS];
     size_t length = base62_encode_with(&alphabet->tables, number, text, sizeof text);
     return PyUnicode_DecodeASCII(text, (Py_ssize_t)length, NULL);
 }
-
-DEFINE_CALL(encode, "O|O", 1, 2, encode_or_raise(number_or_raise, state, arguments), "number", "alphabet")
-DEFINE_CALL(encode_uuid, "O|O", 1, 2, encode_or_raise(uuid_or_raise, state, arguments), "value", "alphabet")
 
 static void raise_too_narrow(struct state *state, base62_number number, size_t width) {
     size_t count = base62_digit_count(number);
@@ -283,141 +273,115 @@ static PyObject *new_fixed_or_raise(struct state *state, const base62_alphabet *
     return result;
 }
 
-static inline PyObject *fixed_or_raise(read_number *read, struct state *state, PyObject *const arguments[3]) {
+static inline PyObject *fixed_or_raise(read_number *read, struct state *state, const struct arguments *given) {
     base62_number number;
     size_t width;
     struct alphabet storage;
-    if (read(state, arguments[0], &number) != 0 || width_or_raise(arguments[1], &width) != 0) return NULL;
-    const struct alphabet *alphabet = ascii_alphabet_or_raise(state, arguments[2], &storage);
+    if (read(state, given->first, &number) != 0 || width_or_raise(given->width, &width) != 0) return NULL;
+    const struct alphabet *alphabet = ascii_alphabet_or_raise(state, given->alphabet, &storage);
     return alphabet == NULL ? NULL : new_fixed_or_raise(state, &alphabet->tables, number, width);
 }
 
-DEFINE_CALL(encode_fixed, "OO|O", 2, 3, fixed_or_raise(number_or_raise, state, arguments), "number", "width",
-            "alphabet")
-DEFINE_CALL(encode_uuid_fixed, "OO|O", 2, 3, fixed_or_raise(uuid_or_raise, state, arguments), "value", "width",
-            "alphabet")
-
-static inline PyObject *key_or_raise(read_number *read, struct state *state, PyObject *argument) {
+static inline PyObject *key_or_raise(read_number *read, struct state *state, const struct arguments *given) {
     base62_number number;
-    if (read(state, argument, &number) != 0) return NULL;
     char key[BASE62_KEY_LENGTH];
+    if (read(state, given->first, &number) != 0) return NULL;
     base62_encode_key(number, key);
     return PyUnicode_DecodeASCII(key, sizeof key, NULL);
 }
 
-DEFINE_CALL(encode_key, "O", 1, 1, key_or_raise(number_or_raise, state, arguments[0]), "number")
-DEFINE_CALL(encode_uuid_key, "O", 1, 1, key_or_raise(uuid_or_raise, state, arguments[0]), "value")
-
-static PyObject *digit_count_or_raise(struct state *state, PyObject *argument) {
+static PyObject *digit_count_or_raise(struct state *state, const struct arguments *given) {
     base62_number number;
-    return number_or_raise(state, argument, &number) == 0 ? PyLong_FromSize_t(base62_digit_count(number)) : NULL;
+    return number_or_raise(state, given->first, &number) == 0 ? PyLong_FromSize_t(base62_digit_count(number)) : NULL;
 }
 
-DEFINE_CALL(digit_count, "O", 1, 1, digit_count_or_raise(state, arguments[0]), "number")
+/* The arguments of a decoder. */
+struct input {
+    struct text text;
+    size_t width;
+    const struct alphabet *alphabet;
+    struct alphabet storage;
+};
+
+/* The caller releases the owner of the text. */
+static inline Py_ALWAYS_INLINE int input_or_raise(struct state *state, const struct arguments *given,
+                                                  struct input *input) {
+    if (width_or_raise(given->width, &input->width) != 0) return -1;
+    if (text_or_raise(state, given->first, &input->text) != 0) return -1;
+    input->alphabet = alphabet_or_raise(state, given->alphabet, &input->storage);
+    if (input->alphabet == NULL) Py_DecRef(input->text.owner);
+    return input->alphabet == NULL ? -1 : 0;
+}
 
 typedef PyObject *new_result(struct state *, base62_number);
 
 /* Decodes a text, and returns the number as an object. If decode is NULL, base62_decode_fixed_with decodes it, which alone
    has a width. Inlined, a call has its decoder as a constant. */
-static inline Py_ALWAYS_INLINE PyObject *decode_or_raise(decode_with *decode, size_t width, new_result *new,
-                                                         struct state *state, PyObject *argument,
-                                                         PyObject *characters) {
-    struct text text;
-    if (text_or_raise(state, argument, &text) != 0) return NULL;
+static inline Py_ALWAYS_INLINE PyObject *decode_or_raise(decode_with *decode, new_result *new, struct state *state,
+                                                         const struct arguments *given) {
+    struct input input;
     base62_number number;
     base62_bad_byte bad = {0, 0};
-    base62_status status = BASE62_OK;
-    struct alphabet storage;
-    const struct alphabet *alphabet = alphabet_or_raise(state, characters, &storage);
-    if (alphabet != NULL) {
-        size_t length = (size_t)text.length;
-        PyThreadState *saved = release_gil_if_long(length);
-        status = decode != NULL ? decode(&alphabet->tables, text.bytes, length, &number, &bad)
-                                : base62_decode_fixed_with(&alphabet->tables, text.bytes, length, width, &number, &bad);
-        restore_gil(saved);
-    }
-    Py_DecRef(text.owner);
-    if (alphabet == NULL) return NULL;
-    if (status != BASE62_OK) return raise_for_text(state, status, bad, text, width);
+    if (input_or_raise(state, given, &input) != 0) return NULL;
+    const base62_alphabet *tables = &input.alphabet->tables;
+    size_t length = (size_t)input.text.length;
+    PyThreadState *saved = release_gil_if_long(length);
+    base62_status status = decode != NULL
+                               ? decode(tables, input.text.bytes, length, &number, &bad)
+                               : base62_decode_fixed_with(tables, input.text.bytes, length, input.width, &number, &bad);
+    restore_gil(saved);
+    Py_DecRef(input.text.owner);
+    if (status != BASE62_OK) return raise_for_text(state, status, bad, input.text, input.width);
     return new (state, number);
 }
 
-static inline Py_ALWAYS_INLINE PyObject *decode_fixed_or_raise(new_result *new, struct state *state,
-                                                               PyObject *const arguments[3]) {
-    size_t width;
-    if (width_or_raise(arguments[1], &width) != 0) return NULL;
-    return decode_or_raise(NULL, width, new, state, arguments[0], arguments[2]);
-}
-
-#define DEFINE_DECODER(name, decode, new)                                                                              \
-    DEFINE_CALL(name, "O|O", 1, 2, decode_or_raise(decode, 0, new, state, arguments[0], arguments[1]), "text",         \
-                "alphabet")
-#define DEFINE_FIXED_DECODER(name, new)                                                                                \
-    DEFINE_CALL(name, "OO|O", 2, 3, decode_fixed_or_raise(new, state, arguments), "text", "width", "alphabet")
-#define DEFINE_KEY_DECODER(name, new)                                                                                  \
-    DEFINE_CALL(name, "O", 1, 1, decode_or_raise(NULL, BASE62_KEY_LENGTH, new, state, arguments[0], NULL), "text")
-
-DEFINE_DECODER(decode, base62_decode_with, new_int)
-DEFINE_DECODER(decode_canonical, base62_decode_canonical_with, new_int)
-DEFINE_DECODER(decode_uuid, base62_decode_with, new_uuid)
-DEFINE_DECODER(decode_uuid_canonical, base62_decode_canonical_with, new_uuid)
-DEFINE_FIXED_DECODER(decode_fixed, new_int)
-DEFINE_FIXED_DECODER(decode_uuid_fixed, new_uuid)
-DEFINE_KEY_DECODER(decode_key, new_int)
-DEFINE_KEY_DECODER(decode_uuid_key, new_uuid)
-
-static PyObject *range_or_raise(struct state *state, PyObject *argument, size_t width, PyObject *characters) {
-    struct text prefix;
-    if (text_or_raise(state, argument, &prefix) != 0) return NULL;
+static PyObject *range_or_raise(struct state *state, const struct arguments *given) {
+    struct input input;
     base62_range range = {{0, 0}, {0, 0}};
     base62_bad_byte bad = {0, 0};
-    base62_status status = BASE62_OK;
-    struct alphabet storage;
-    const struct alphabet *alphabet = alphabet_or_raise(state, characters, &storage);
-    if (alphabet != NULL) {
-        PyThreadState *saved = release_gil_if_long((size_t)prefix.length);
-        status = base62_prefix_range_with(&alphabet->tables, prefix.bytes, (size_t)prefix.length, width, &range, &bad);
-        restore_gil(saved);
-    }
-    Py_DecRef(prefix.owner);
-    if (alphabet == NULL) return NULL;
+    if (input_or_raise(state, given, &input) != 0) return NULL;
+    size_t length = (size_t)input.text.length;
+    PyThreadState *saved = release_gil_if_long(length);
+    base62_status status =
+        base62_prefix_range_with(&input.alphabet->tables, input.text.bytes, length, input.width, &range, &bad);
+    restore_gil(saved);
+    Py_DecRef(input.text.owner);
     if (status == BASE62_NO_MATCH) return new_ref(Py_None);
     if (status != BASE62_OK) return raise_status(state, status, bad, "");
     return Py_BuildValue("NN", new_int(state, range.least), new_int(state, range.greatest));
 }
 
-static PyObject *prefix_range_or_raise(struct state *state, PyObject *const arguments[3]) {
-    size_t width;
-    return width_or_raise(arguments[1], &width) == 0 ? range_or_raise(state, arguments[0], width, arguments[2]) : NULL;
-}
+/* Each call, its parameters, and the expression of its result, which has the state and the given arguments. */
+#define FOR_EACH_CALL(DO)                                                                                              \
+    DO(encode, OF_ALL, "number", encode_or_raise(number_or_raise, state, &given))                                      \
+    DO(encode_uuid, OF_ALL, "value", encode_or_raise(uuid_or_raise, state, &given))                                    \
+    DO(encode_fixed, OF_WIDTHS, "number", fixed_or_raise(number_or_raise, state, &given))                              \
+    DO(encode_uuid_fixed, OF_WIDTHS, "value", fixed_or_raise(uuid_or_raise, state, &given))                            \
+    DO(encode_key, OF_KEYS, "number", key_or_raise(number_or_raise, state, &given))                                    \
+    DO(encode_uuid_key, OF_KEYS, "value", key_or_raise(uuid_or_raise, state, &given))                                  \
+    DO(digit_count, OF_KEYS, "number", digit_count_or_raise(state, &given))                                            \
+    DO(decode, OF_ALL, "text", decode_or_raise(base62_decode_with, new_int, state, &given))                            \
+    DO(decode_uuid, OF_ALL, "text", decode_or_raise(base62_decode_with, new_uuid, state, &given))                      \
+    DO(decode_canonical, OF_ALL, "text", decode_or_raise(base62_decode_canonical_with, new_int, state, &given))        \
+    DO(decode_uuid_canonical, OF_ALL, "text", decode_or_raise(base62_decode_canonical_with, new_uuid, state, &given))  \
+    DO(decode_fixed, OF_WIDTHS, "text", decode_or_raise(NULL, new_int, state, &given))                                 \
+    DO(decode_uuid_fixed, OF_WIDTHS, "text", decode_or_raise(NULL, new_uuid, state, &given))                           \
+    DO(decode_key, OF_KEYS, "text", decode_or_raise(NULL, new_int, state, &given))                                     \
+    DO(decode_uuid_key, OF_KEYS, "text", decode_or_raise(NULL, new_uuid, state, &given))                               \
+    DO(prefix_range, OF_WIDTHS, "prefix", range_or_raise(state, &given))                                               \
+    DO(key_range, OF_KEYS, "prefix", range_or_raise(state, &given))
 
-DEFINE_CALL(prefix_range, "OO|O", 2, 3, prefix_range_or_raise(state, arguments), "prefix", "width", "alphabet")
-DEFINE_CALL(key_range, "O", 1, 1, range_or_raise(state, arguments[0], BASE62_KEY_LENGTH, NULL), "prefix")
+#define DEFINE(name, parameters_of, first, result)                                                                     \
+    static PyObject *name(PyObject *module, PyObject *const *args, Py_ssize_t nargs, PyObject *kwnames) {              \
+        static const struct parameters signature = {parameters_of(#name, first)};                                      \
+        struct state *state = PyModule_GetState(module);                                                               \
+        struct arguments given;                                                                                        \
+        return unpack(&signature, args, nargs, kwnames, &given) == 0 ? result : NULL;                                  \
+    }
+#define METHOD(name, ...) {#name, (PyCFunction)(void (*)(void))name, METH_FASTCALL | METH_KEYWORDS, DOC_##name},
 
-#define CALL(name) #name, (PyCFunction)(void (*)(void))name, METH_FASTCALL | METH_KEYWORDS, DOC_##name
-
-/* clang-format off */
-static PyMethodDef calls[] = {
-    {CALL(encode)},
-    {CALL(encode_uuid)},
-    {CALL(encode_fixed)},
-    {CALL(encode_uuid_fixed)},
-    {CALL(encode_key)},
-    {CALL(encode_uuid_key)},
-    {CALL(digit_count)},
-    {CALL(prefix_range)},
-    {CALL(decode)},
-    {CALL(decode_uuid)},
-    {CALL(decode_fixed)},
-    {CALL(decode_uuid_fixed)},
-    {CALL(decode_key)},
-    {CALL(decode_uuid_key)},
-    {CALL(decode_canonical)},
-    {CALL(decode_uuid_canonical)},
-    {CALL(key_range)},
-    {NULL, NULL, 0, NULL},
-};
-/* clang-format on */
+FOR_EACH_CALL(DEFINE)
+static PyMethodDef calls[] = {FOR_EACH_CALL(METHOD){NULL, NULL, 0, NULL}};
 
 /* The calls name base62 as their module, since callers find them there. */
 static int add_calls(PyObject *module) {
@@ -447,7 +411,7 @@ static int import_types(PyObject **objects) {
 static int execute(PyObject *module) {
     struct state *state = PyModule_GetState(module);
     if (state == NULL || !import_types(state->objects)) return -1;
-    int ok = add_uuid_names(state) && add_alphabets(module) && add_calls(module);
+    int ok = add_alphabets(module) && add_calls(module);
     return ok ? PyModule_AddStringConstant(module, "__version__", BASE62_VERSION) : -1;
 }
 
@@ -457,25 +421,17 @@ static int traverse(PyObject *module, visitproc visit, void *arg) {
     return 0;
 }
 
-static int clear(PyObject *module) {
+static void free_module(void *module) {
     struct state *state = PyModule_GetState(module);
-    for (int i = 0; i < OBJECT_COUNT; i++) {
-        PyObject *object = state->objects[i];
-        state->objects[i] = NULL;
-        Py_DecRef(object);
-    }
-    return 0;
+    for (int i = 0; i < OBJECT_COUNT; i++) Py_DecRef(state->objects[i]);
 }
-
-static void free_module(void *module) { clear(module); }
 
 /* Py_mod_multiple_interpreters (3) = Py_MOD_PER_INTERPRETER_GIL_SUPPORTED (2). An interpreter with its own GIL needs
    it, from 3.12 on; 3.11 rejects it, and the limited API of 3.11 does not have the names. */
 static PyModuleDef_Slot slots[] = {{3, (void *)2}, {Py_mod_exec, execute}, {0, NULL}};
 
 static PyMethodDef row_calls[] = {
-    {"_encode_rows", encode_rows, METH_VARARGS, DOC__encode_rows},
-    {"_decode_rows", decode_rows, METH_VARARGS, DOC__decode_rows},
+    {"_convert_rows", convert_rows, METH_VARARGS, DOC__convert_rows},
     {"_pack_rows", pack_rows, METH_VARARGS, DOC__pack_rows},
     {NULL, NULL, 0, NULL},
 };
@@ -483,8 +439,7 @@ static PyMethodDef row_calls[] = {
 #define DEFINITION(module_slots)                                                                                       \
     {                                                                                                                  \
         .m_base = PyModuleDef_HEAD_INIT, .m_name = "base62._base62", .m_size = sizeof(struct state),                   \
-        .m_methods = row_calls, .m_slots = (module_slots), .m_traverse = traverse, .m_clear = clear,                   \
-        .m_free = free_module,                                                                                         \
+        .m_methods = row_calls, .m_slots = (module_slots), .m_traverse = traverse, .m_free = free_module,              \
     }
 
 static struct PyModuleDef since_3_12 = DEFINITION(slots), of_3_11 = DEFINITION(slots + 1);

@@ -21,6 +21,8 @@
     DO(TO_CHARACTERS, "to_characters")                                                                                 \
     DO(INT_TO_UUID, "int_to_uuid")                                                                                     \
     DO(UUID, "UUID")                                                                                                   \
+    DO(INT, "INT")                                                                                                     \
+    DO(IS_SAFE, "IS_SAFE")                                                                                             \
     DO(UNKNOWN, "UNKNOWN")                                                                                             \
     DO(BYTES_SIZE, "BYTES_SIZE")                                                                                       \
     DO(EMPTY_INPUT_ERROR, "EmptyInputError")                                                                           \
@@ -35,17 +37,9 @@
 #define NAME_OF_TYPE(constant, name) name,
 
 /* The objects that the module owns. */
-enum {
-    FOR_EACH_TYPE(CONSTANT_OF_TYPE) TYPES_END,
-    /* The names of the attributes of a UUID. */
-    INT = TYPES_END,
-    IS_SAFE,
-    ALPHABET,
-    STANDARD,
-    ALTERNATIVE,
-    OBJECT_COUNT
-};
+enum { FOR_EACH_TYPE(CONSTANT_OF_TYPE) TYPES_END, ALPHABET = TYPES_END, STANDARD, ALTERNATIVE, OBJECT_COUNT };
 
+/* The objects are there as long as the module: the collector breaks its cycles by its dict, and by the type Alphabet. */
 struct state {
     PyObject *objects[OBJECT_COUNT];
     /* The size of a bytes object without its items, and whether the fields of an Alphabet follow them. */
@@ -80,7 +74,6 @@ static inline struct alphabet *fields_of(const struct state *state, PyObject *ob
 }
 
 /* In _base62.c: objects of the module, arguments and results. */
-PyObject *borrow(struct state *state, int which);
 PyObject *convert(struct state *state, int converter, PyObject *argument);
 int number_or_raise(struct state *state, PyObject *argument, base62_number *number);
 int steal_bytes_or_raise(PyObject *bytes, struct text *text);
@@ -95,8 +88,7 @@ PyObject *characters_or_raise(struct state *state, PyObject *argument, struct al
 int add_alphabets(PyObject *module);
 
 /* In _columns.c. */
-PyObject *encode_rows(PyObject *module, PyObject *args);
-PyObject *decode_rows(PyObject *module, PyObject *args);
+PyObject *convert_rows(PyObject *module, PyObject *args);
 PyObject *pack_rows(PyObject *module, PyObject *args);
 
 /* In _uuid.c. */
@@ -104,6 +96,5 @@ int read_uuid(struct text text, int is_string, base62_number *number);
 PyObject *uuid_int_or_raise(struct state *state, PyObject *argument, const char *expected);
 int uuid_or_raise(struct state *state, PyObject *argument, base62_number *number);
 PyObject *new_uuid(struct state *state, base62_number number);
-int add_uuid_names(struct state *state);
 
 #endif

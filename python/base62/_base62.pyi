@@ -209,16 +209,17 @@ def prefix_range(
 _Source = tuple[str, int, int, object, object, object]
 _Result = tuple[str, object, object, object]
 
-def _encode_rows(alphabet: Alphabet, width: int, source: _Source, result: _Result, coerces: bool, /) -> tuple[int, int, int]:
-    """Encode rows of numbers, with the width, or with no leading zeros if it is -1.
+def _convert_rows(
+    encodes: bool, alphabet: Alphabet, width: int, source: _Source, result: _Result, coerces: bool, /
+) -> tuple[int, int, int]:
+    """Encode rows of numbers with the width, or with no leading zeros if it is -1. Or decode rows of strings of the width,
+    of any length if it is -1, or canonical ones if -2.
 
     source is a type, an offset, the count of rows, and the buffers of validity, values and characters; result a type, and
-    the buffers of validity, offsets and values. Return how many rows are encoded before the first invalid one, the length
-    of their strings, and how many are null. Raises ValueError if a buffer is too short, or has such offsets.
+    the buffers of validity, offsets and values. Return how many rows are converted before the first invalid one, the
+    length of the strings of the result, and how many are null. Raises ValueError if a buffer is too short, or has such
+    offsets.
     """
-
-def _decode_rows(alphabet: Alphabet, width: int, source: _Source, result: _Result, coerces: bool, /) -> tuple[int, int, int]:
-    """Like _encode_rows, but decode rows of strings of the width, of any length if it is -1, or canonical ones if -2."""
 
 def _pack_rows(rows: list[object], missing: object, decimal: object, are_uuids: bool, validity: object, values: object, /) -> int:
     """Store numbers as 16 bytes each, in buffers of zeros, and set the bits of rows that are not missing.

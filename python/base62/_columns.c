@@ -1,7 +1,7 @@
 /* SPDX-License-Identifier: MIT */
 /* Copyright (c) 2026 the maintainers of base62 for Rattle */
 
-/* Hand-written. The loops of base62.columns over the buffers of Arrow arrays. Whatever these contain, nothing outside
+/* Hand-written. The loop of base62.columns over the buffers of Arrow arrays. Whatever these contain, nothing outside
    of them is read or written, if what a call reads does not change until it returns: it runs without the GIL. A type
    is a letter of Arrow's C data interface: uint64 L, int64 l, decimal128 d, fixed_size_binary(16) w, string u,
    binary z, large_string U, large_binary Z. Decimals are little-endian: columns.py is for such machines only. */
@@ -29,6 +29,8 @@ struct conversion {
     struct result result;
     struct alphabet storage;
     const base62_alphabet *alphabet;
+    /* Numbers are encoded. Otherwise strings are decoded. */
+    int encodes;
     /* The width, or ANY_WIDTH, or of decoding CANONICAL. */
     Py_ssize_t width;
     /* Of decoding: the function, NULL if there is a width, and the greatest number of the type of the result. */
@@ -70,9 +72,9 @@ static unsigned char *place_at(const Py_buffer *buffer, Py_ssize_t index, Py_ssi
     return (unsigned char *)buffer->buf + index * size;
 }
 
-static inline enum outcome read_text(const struct source *source, Py_ssize_t index, int is_large, struct text *text) {
+static enum outcome read_text(const struct source *source, Py_ssize_t index, struct text *text) {
     int64_t ends[2];
-    if (is_large) {
+    if (has_large_offsets(source->type)) {
         memcpy(ends, place_at(&source->values, index, sizeof *ends), sizeof ends);
     } else {
         int32_t small[2];
@@ -104,7 +106,7 @@ static enum outcome read_number(const struct source *source, Py_ssize_t index, b
         *number = base62_from_uuid(place_at(&source->values, index, BASE62_UUID_LENGTH));
         return VALID;
     }
-    if (read_text(source, index, has_large_offsets(source->type), &text) != VALID) return MALFORMED;
+    if (read_text(source, index, &text) != VALID) return MALFORMED;
     return read_uuid(text, source->type == 'u' || source->type == 'U', number) == 0 ? VALID : INVALID;
 }
 
@@ -117,49 +119,37 @@ static void store_offset(const struct result *result, Py_ssize_t row) {
         memcpy(place_at(&result->offsets, row, sizeof small), &small, sizeof small);
 }
 
-/* Stores a decimal, or a string for a UUID. A null row has 0, or no string. */
-static void store_decimal_or_string(struct result *result, Py_ssize_t row, base62_number number, int is_valid) {
+/* Stores a decoded number. */
+static void store_number(struct result *result, Py_ssize_t row, base62_number number) {
     const uint64_t halves[2] = {number.low, number.high};
     unsigned char uuid[BASE62_UUID_LENGTH];
-    if (result->type == 'd') {
+    if (result->type == 'L' || result->type == 'l') {
+        memcpy(place_at(&result->values, row, sizeof *halves), halves, sizeof *halves);
+    } else if (result->type == 'd') {
         memcpy(place_at(&result->values, row, sizeof halves), halves, sizeof halves);
-        return;
-    }
-    if (is_valid) {
+    } else if (result->type == 'w') {
+        base62_to_uuid(number, place_at(&result->values, row, BASE62_UUID_LENGTH));
+    } else {
         base62_to_uuid(number, uuid);
         base62_uuid_to_string(uuid, (char *)result->values.buf + result->used);
         result->used += BASE62_UUID_STRING_LENGTH;
     }
-    store_offset(result, row + 1);
 }
 
-/* What decodes rows has the type of the result as a constant: l for uint64 and int64, w, or 0 for the others. */
-
-/* Stores a decoded number, or 0 for a null row. */
-static inline Py_ALWAYS_INLINE void store_number(struct result *result, Py_ssize_t row, int type, base62_number number,
-                                                 int is_valid) {
-    if (type == 'l')
-        memcpy(place_at(&result->values, row, sizeof number.low), &number.low, sizeof number.low);
-    else if (type == 'w')
-        base62_to_uuid(number, place_at(&result->values, row, BASE62_UUID_LENGTH));
-    else
-        store_decimal_or_string(result, row, number, is_valid);
-}
-
-/* Makes a row null. Returns 0 if it ends the conversion instead. */
+/* Makes a row null, which then has no string, or 0. Returns 0 if the row ends the conversion instead. */
 static int set_null(struct conversion *conversion, Py_ssize_t row, enum outcome outcome) {
+    struct result *result = &conversion->result;
     if (outcome == MALFORMED || (outcome == INVALID && !conversion->coerces)) return 0;
-    ((unsigned char *)conversion->result.validity.buf)[row / 8] &= (unsigned char)~(1 << row % 8);
-    conversion->result.nulls++;
+    *place_at(&result->validity, row / 8, 1) &= (unsigned char)~(1 << row % 8);
+    result->nulls++;
+    if (!is_text(result->type)) memset(place_at(&result->values, row, conversion->most), 0, (size_t)conversion->most);
     return 1;
 }
 
 static enum outcome encode_row(struct conversion *conversion, Py_ssize_t row) {
-    const struct source *source = &conversion->source;
     struct result *result = &conversion->result;
     base62_number number;
-    if (is_null(source, source->offset + row)) return MISSING;
-    enum outcome outcome = read_number(source, source->offset + row, &number);
+    enum outcome outcome = read_number(&conversion->source, conversion->source.offset + row, &number);
     if (outcome != VALID) return outcome;
     char *place = (char *)result->values.buf + result->used;
     size_t left = (size_t)(result->values.len - result->used), width = (size_t)conversion->width;
@@ -169,61 +159,34 @@ static enum outcome encode_row(struct conversion *conversion, Py_ssize_t row) {
     return length == 0 ? INVALID : VALID;
 }
 
-/* Returns the outcome of the row that ends the conversion, if it is before the end. */
-static enum outcome encode_until(struct conversion *conversion, Py_ssize_t end) {
-    for (; conversion->row < end; conversion->row++) {
-        enum outcome outcome = encode_row(conversion, conversion->row);
-        if (outcome != VALID && !set_null(conversion, conversion->row, outcome)) return outcome;
-        store_offset(&conversion->result, conversion->row + 1);
-    }
-    return VALID;
-}
-
-static inline base62_status decode_text(const struct conversion *conversion, struct text text, base62_number *number) {
-    base62_bad_byte bad;
-    size_t length = (size_t)text.length, width = (size_t)conversion->width;
-    if (conversion->decode != NULL) return conversion->decode(conversion->alphabet, text.bytes, length, number, &bad);
-    return base62_decode_fixed_with(conversion->alphabet, text.bytes, length, width, number, &bad);
-}
-
-static inline Py_ALWAYS_INLINE enum outcome decode_row(const struct conversion *conversion, Py_ssize_t row,
-                                                       int is_large, int type, base62_number *number) {
-    const struct source *source = &conversion->source;
-    struct text text;
-    if (is_null(source, source->offset + row)) return MISSING;
-    enum outcome outcome = read_text(source, source->offset + row, is_large, &text);
-    if (outcome != VALID) return outcome;
-    if (decode_text(conversion, text, number) != BASE62_OK) return INVALID;
-    if (type == 'w') return VALID;
+static enum outcome decode_row(struct conversion *conversion, Py_ssize_t row) {
     const base62_number *most = &conversion->greatest;
-    if (type == 'l') return number->high != 0 || number->low > most->low ? INVALID : VALID;
-    return number->high > most->high || (number->high == most->high && number->low > most->low) ? INVALID : VALID;
-}
-
-static inline Py_ALWAYS_INLINE enum outcome decode_loop(struct conversion *conversion, Py_ssize_t end, int is_large,
-                                                        int type) {
-    Py_ssize_t row = conversion->row;
-    for (; row < end; row++) {
-        base62_number number;
-        enum outcome outcome = decode_row(conversion, row, is_large, type, &number);
-        if (outcome != VALID) {
-            conversion->row = row;
-            if (!set_null(conversion, row, outcome)) return outcome;
-            number = base62_from_u64(0);
-        }
-        store_number(&conversion->result, row, type, number, outcome == VALID);
-    }
-    conversion->row = row;
+    struct text text;
+    base62_number number;
+    base62_bad_byte bad;
+    if (read_text(&conversion->source, conversion->source.offset + row, &text) != VALID) return MALFORMED;
+    size_t length = (size_t)text.length, width = (size_t)conversion->width;
+    base62_status status =
+        conversion->decode != NULL
+            ? conversion->decode(conversion->alphabet, text.bytes, length, &number, &bad)
+            : base62_decode_fixed_with(conversion->alphabet, text.bytes, length, width, &number, &bad);
+    if (status != BASE62_OK || number.high > most->high || (number.high == most->high && number.low > most->low))
+        return INVALID;
+    store_number(&conversion->result, row, number);
     return VALID;
 }
 
-/* Each size of offsets and of results has a loop of its own. */
-static enum outcome decode_until(struct conversion *conversion, Py_ssize_t end) {
-    int is_large = has_large_offsets(conversion->source.type), type = conversion->result.type;
-    if (type == 'L' || type == 'l')
-        return is_large ? decode_loop(conversion, end, 1, 'l') : decode_loop(conversion, end, 0, 'l');
-    if (type == 'w') return is_large ? decode_loop(conversion, end, 1, 'w') : decode_loop(conversion, end, 0, 'w');
-    return is_large ? decode_loop(conversion, end, 1, 0) : decode_loop(conversion, end, 0, 0);
+/* Returns the outcome of the row that ends the conversion, if it is before the end. */
+static enum outcome convert_until(struct conversion *conversion, Py_ssize_t end) {
+    for (; conversion->row < end; conversion->row++) {
+        Py_ssize_t row = conversion->row;
+        enum outcome outcome = is_null(&conversion->source, conversion->source.offset + row) ? MISSING
+                               : conversion->encodes ? encode_row(conversion, row)
+                                                     : decode_row(conversion, row);
+        if (outcome != VALID && !set_null(conversion, row, outcome)) return outcome;
+        if (is_text(conversion->result.type)) store_offset(&conversion->result, row + 1);
+    }
+    return VALID;
 }
 
 static int is_missing(PyObject *object, PyObject *missing) {
@@ -232,9 +195,7 @@ static int is_missing(PyObject *object, PyObject *missing) {
 
 /* Reads a decimal whose string has digits alone. */
 static int decimal_or_raise(struct state *state, PyObject *decimal, base62_number *number) {
-    PyObject *text = PyObject_Str(decimal);
-    const char *digits = text == NULL ? NULL : PyUnicode_AsUTF8AndSize(text, NULL);
-    PyObject *integer = digits == NULL ? NULL : PyLong_FromString(digits, NULL, 10);
+    PyObject *text = PyObject_Str(decimal), *integer = text == NULL ? NULL : PyNumber_Long(text);
     int failed = integer == NULL ? -1 : number_or_raise(state, integer, number);
     Py_DecRef(integer);
     Py_DecRef(text);
@@ -281,6 +242,21 @@ static base62_number greatest_of(int type) {
     return type == 'd' ? of_decimal128 : (base62_number){.high = UINT64_MAX, .low = UINT64_MAX};
 }
 
+/* Sets what follows from the types. Returns 0 if they are wrong. */
+static int set_types(struct conversion *conversion) {
+    int given = conversion->source.type, type = conversion->result.type;
+    if (conversion->encodes) {
+        conversion->most = given == 'L' || given == 'l' ? MAX_DIGITS_OF_64_BITS : BASE62_MAX_DIGITS;
+        if (conversion->width >= 0) conversion->most = conversion->width;
+        return is_type(given, "LldwuzUZ") && is_type(type, "uU");
+    }
+    if (conversion->width < 0)
+        conversion->decode = conversion->width == CANONICAL ? base62_decode_canonical_with : base62_decode_with;
+    conversion->greatest = greatest_of(type);
+    conversion->most = is_text(type) ? BASE62_UUID_STRING_LENGTH : size_of(type);
+    return is_type(given, "uzUZ") && is_type(type, "LldwuU");
+}
+
 /* Whether the buffers have the rows. */
 static int has_rows(const struct conversion *conversion) {
     const struct source *source = &conversion->source;
@@ -296,36 +272,20 @@ static int has_rows(const struct conversion *conversion) {
            (result->type != 'u' || result->values.len <= INT32_MAX);
 }
 
-/* Signals are handled between runs of at most so many rows, or bytes. The rows are a multiple of 8, so that no byte of a
-   bitmap is begun twice. */
-enum { RUN_ROWS = 1 << 16, RUN_BYTES = 1 << 24 };
-
-/* How much the next rows read and write. For malformed strings it is any number. */
-static uint64_t bytes_of(const struct conversion *conversion, Py_ssize_t rows) {
-    const struct source *source = &conversion->source;
-    Py_ssize_t first_index = source->offset + conversion->row;
-    int is_large = has_large_offsets(source->type);
-    struct text first, last;
-    uint64_t size = (uint64_t)rows * (uint64_t)conversion->most;
-    if (is_text(source->type) && read_text(source, first_index, is_large, &first) == VALID &&
-        read_text(source, first_index + rows - 1, is_large, &last) == VALID)
-        size += (uint64_t)(last.bytes - first.bytes) + (uint64_t)last.length;
-    return size;
-}
-
-static Py_ssize_t rows_of_run(const struct conversion *conversion) {
-    Py_ssize_t left = conversion->source.count - conversion->row, rows = left < RUN_ROWS ? left : RUN_ROWS;
-    while (rows > 8 && bytes_of(conversion, rows) > RUN_BYTES) rows = (rows / 2 + 7) / 8 * 8;
-    return rows;
-}
+/* Signals are handled between runs of rows, which on average read and write so many bytes. */
+enum { RUN_BYTES = 1 << 22 };
 
 /* The GIL is free while rows are converted. */
-static enum outcome convert_rows(struct conversion *conversion,
-                                 enum outcome (*convert_until)(struct conversion *, Py_ssize_t)) {
-    Py_ssize_t count = conversion->source.count;
+static enum outcome convert_runs(struct conversion *conversion) {
+    const struct source *source = &conversion->source;
     if (is_text(conversion->result.type)) store_offset(&conversion->result, 0);
-    while (conversion->row < count) {
-        Py_ssize_t rows = rows_of_run(conversion);
+    while (conversion->row < source->count) {
+        /* A column can be a slice of more characters. */
+        Py_ssize_t read = source->characters.len / (source->values.len / size_of(source->type));
+        Py_ssize_t written = conversion->result.values.len / source->count;
+        /* A multiple of 8, so that no byte of a bitmap is begun twice. */
+        Py_ssize_t rows = RUN_BYTES / (read + written + 1) / 8 * 8 + 8, left = source->count - conversion->row;
+        if (rows > left) rows = left;
         PyThreadState *saved = PyEval_SaveThread();
         memset((char *)conversion->result.validity.buf + conversion->row / 8, 0xff, (size_t)(rows + 7) / 8);
         enum outcome outcome = convert_until(conversion, conversion->row + rows);
@@ -339,13 +299,13 @@ static int parse_conversion(PyObject *module, PyObject *args, struct conversion 
     struct state *state = PyModule_GetState(module);
     struct source *source = &conversion->source;
     struct result *result = &conversion->result;
-    PyObject *alphabet = PyTuple_GetItem(args, 0), *type = borrow(state, ALPHABET);
+    PyObject *alphabet = PyTuple_GetItem(args, 1), *type = state->objects[ALPHABET];
     *conversion = (struct conversion){.row = 0};
     const struct alphabet *fields = alphabet == NULL ? NULL : alphabet_or_raise(state, alphabet, &conversion->storage);
-    if (type == NULL || fields == NULL ||
-        !PyArg_ParseTuple(args, "O!n(Cnnz*z*z*)(Cw*w*w*)p", type, &alphabet, &conversion->width, &source->type,
-                          &source->offset, &source->count, &source->validity, &source->values, &source->characters,
-                          &result->type, &result->validity, &result->offsets, &result->values, &conversion->coerces))
+    if (fields == NULL || !PyArg_ParseTuple(args, "pO!n(Cnnz*z*z*)(Cw*w*w*)p", &conversion->encodes, type, &alphabet,
+                                            &conversion->width, &source->type, &source->offset, &source->count,
+                                            &source->validity, &source->values, &source->characters, &result->type,
+                                            &result->validity, &result->offsets, &result->values, &conversion->coerces))
         return -1;
     conversion->alphabet = &fields->tables;
     if (source->characters.buf == NULL) source->characters.buf = (char *)"";
@@ -365,28 +325,9 @@ static PyObject *finish(struct conversion *conversion, enum outcome outcome) {
     return Py_BuildValue("nnn", conversion->row, conversion->result.used, conversion->result.nulls);
 }
 
-PyObject *encode_rows(PyObject *module, PyObject *args) {
+PyObject *convert_rows(PyObject *module, PyObject *args) {
     struct conversion conversion;
     if (parse_conversion(module, args, &conversion) != 0) return NULL;
-    int type = conversion.source.type;
-    conversion.most = type == 'L' || type == 'l' ? MAX_DIGITS_OF_64_BITS : BASE62_MAX_DIGITS;
-    if (conversion.width >= 0) conversion.most = conversion.width;
-    enum outcome outcome = MALFORMED;
-    if (is_type(type, "LldwuzUZ") && is_type(conversion.result.type, "uU") && has_rows(&conversion))
-        outcome = convert_rows(&conversion, encode_until);
-    return finish(&conversion, outcome);
-}
-
-PyObject *decode_rows(PyObject *module, PyObject *args) {
-    struct conversion conversion;
-    if (parse_conversion(module, args, &conversion) != 0) return NULL;
-    int type = conversion.result.type;
-    if (conversion.width < 0)
-        conversion.decode = conversion.width == CANONICAL ? base62_decode_canonical_with : base62_decode_with;
-    conversion.greatest = greatest_of(type);
-    conversion.most = is_text(type) ? BASE62_UUID_STRING_LENGTH : size_of(type);
-    enum outcome outcome = MALFORMED;
-    if (is_type(conversion.source.type, "uzUZ") && is_type(type, "LldwuU") && has_rows(&conversion))
-        outcome = convert_rows(&conversion, decode_until);
-    return finish(&conversion, outcome);
+    int is_whole = set_types(&conversion) && has_rows(&conversion);
+    return finish(&conversion, is_whole ? convert_runs(&conversion) : MALFORMED);
 }

@@ -9,9 +9,11 @@ Number = SupportsIndex | UUID
 EncodedString = str | bytes | bytearray | memoryview
 AnyUUID = UUID | str | bytes
 
-# What UUID(int=..) stores in is_safe, if a UUID has no other attributes. Then the extension creates it by setting them.
+# The attributes of a UUID, and what UUID(int=..) stores in is_safe if there is no other one. Then the extension creates it by
+# setting them.
+INT, IS_SAFE = "int", "is_safe"
 _SLOTS = getattr(UUID, "__slots__", None)
-UNKNOWN = SafeUUID.unknown if _SLOTS == ("int", "is_safe", "__weakref__") else None
+UNKNOWN = SafeUUID.unknown if _SLOTS == (INT, IS_SAFE, "__weakref__") else None
 # Where a Python has the fields that a subclass adds to bytes in another place, an Alphabet is checked on each call.
 BYTES_SIZE = bytes.__basicsize__
 

@@ -26,18 +26,11 @@ static int number_of_text_or_raise(struct state *state, PyObject *argument, base
     return failed;
 }
 
-static int is_uuid_or_raise(struct state *state, PyObject *argument, const char *expected) {
-    PyObject *uuid = borrow(state, UUID);
-    int is_uuid = uuid == NULL ? -1 : PyObject_IsInstance(argument, uuid);
-    if (is_uuid == 0) raise_type_error(expected, argument);
-    return is_uuid > 0;
-}
-
 /* UUID.int is an int, but a program can store any object there. */
 PyObject *uuid_int_or_raise(struct state *state, PyObject *argument, const char *expected) {
-    int is_uuid = (PyObject *)Py_TYPE(argument) == state->objects[UUID] || is_uuid_or_raise(state, argument, expected);
-    PyObject *name = is_uuid ? borrow(state, INT) : NULL;
-    PyObject *attribute = name == NULL ? NULL : PyObject_GetAttr(argument, name);
+    int is_uuid = PyObject_IsInstance(argument, state->objects[UUID]);
+    if (is_uuid == 0) raise_type_error(expected, argument);
+    PyObject *attribute = is_uuid > 0 ? PyObject_GetAttr(argument, state->objects[INT]) : NULL;
     PyObject *integer = attribute == NULL ? NULL : PyNumber_Index(attribute);
     Py_DecRef(attribute);
     return integer;
@@ -52,28 +45,19 @@ int uuid_or_raise(struct state *state, PyObject *argument, base62_number *number
 }
 
 /* Sets the attributes that UUID.__init__ sets after its checks. */
-static PyObject *uuid_of_int(struct state *state, PyObject *integer, PyObject *unknown) {
-    PyObject *type = borrow(state, UUID), *name = borrow(state, INT), *is_safe = borrow(state, IS_SAFE);
-    if (type == NULL || name == NULL || is_safe == NULL) return NULL;
-    PyObject *uuid = PyType_GenericAlloc((PyTypeObject *)type, 0);
-    if (uuid != NULL && PyObject_GenericSetAttr(uuid, name, integer) == 0 &&
-        PyObject_GenericSetAttr(uuid, is_safe, unknown) == 0)
+static PyObject *uuid_of_int(struct state *state, PyObject *integer) {
+    PyObject *uuid = PyType_GenericAlloc((PyTypeObject *)state->objects[UUID], 0);
+    if (uuid != NULL && PyObject_GenericSetAttr(uuid, state->objects[INT], integer) == 0 &&
+        PyObject_GenericSetAttr(uuid, state->objects[IS_SAFE], state->objects[UNKNOWN]) == 0)
         return uuid;
     Py_DecRef(uuid);
     return NULL;
 }
 
 PyObject *new_uuid(struct state *state, base62_number number) {
-    PyObject *unknown = borrow(state, UNKNOWN), *integer = unknown == NULL ? NULL : new_int(state, number);
-    PyObject *uuid = NULL;
-    if (integer != NULL)
-        uuid = unknown == Py_None ? convert(state, INT_TO_UUID, integer) : uuid_of_int(state, integer, unknown);
+    int has_other_fields = state->objects[UNKNOWN] == Py_None;
+    PyObject *integer = new_int(state, number), *uuid = NULL;
+    if (integer != NULL) uuid = has_other_fields ? convert(state, INT_TO_UUID, integer) : uuid_of_int(state, integer);
     Py_DecRef(integer);
     return uuid;
-}
-
-int add_uuid_names(struct state *state) {
-    state->objects[INT] = PyUnicode_InternFromString("int");
-    state->objects[IS_SAFE] = PyUnicode_InternFromString("is_safe");
-    return state->objects[INT] != NULL && state->objects[IS_SAFE] != NULL;
 }

@@ -44,7 +44,7 @@ if TYPE_CHECKING:
     from collections.abc import Callable
 
     _Type: TypeAlias = pa.DataType
-    _Decoded: TypeAlias = "dict[_Type, tuple[int, Callable[[Any, str], object]]]"
+    _Results: TypeAlias = "dict[_Type, tuple[int, Callable[[Any, str], object]]]"
     _Array: TypeAlias = "pa.Array | pa.ChunkedArray"
     _Width: TypeAlias = SupportsIndex
     _Errors = Literal["raise", "coerce"]
@@ -66,13 +66,14 @@ def _check_below(limit: int, shown: str, hint: str, number: int, counterpart: st
 
 # In a hint, counterpart is the function of the same form for UUIDs, or for numbers. A test follows each hint: it leads to the
 # right values, or to an error.
-# The types of decoded numbers and UUIDs: the bytes of a row, and the row of what the function for one value returns.
-_DECODED_NUMBERS: _Decoded = {
+# The types of results: the bytes of a row, and the row of what the function for one value returns.
+_ENCODED: _Results = dict.fromkeys((pa.string(), pa.large_string()), (-1, lambda text, _: text))
+_DECODED_NUMBERS: _Results = {
     pa.int64(): (8, partial(_check_below, 2**63, "2**63", "pass type=pyarrow.uint64()")),
     pa.uint64(): (8, partial(_check_below, 2**64, "2**64", "pass type=pyarrow.decimal128(38)")),
     pa.decimal128(38): (16, partial(_check_below, 10**38, "10**38", "call {counterpart}")),
 }
-_DECODED_UUIDS: _Decoded = {
+_DECODED_UUIDS: _Results = {
     pa.uuid(): (16, lambda name, _: name),
     pa.binary(16): (16, lambda name, _: name.bytes),
     **dict.fromkeys((pa.string(), pa.large_string()), (36, lambda name, _: str(name))),
@@ -159,10 +160,6 @@ def _readable(column: Any, kind: _Kind) -> Any:
         return _array_of(column)
     if type(column).__name__ == "NumpyExtensionArray":
         column = column.__array__()  # Its dtype is not NumPy's.
-    categories: Any = getattr(getattr(column, "dtype", None), "categories", None)
-    name = getattr(getattr(categories, "dtype", None), "name", None)
-    if name in ("object", "string", "str") and len(categories) > len(column) // 2:
-        column = column.to_numpy()  # Objects are read faster in the order of the rows.
     dtype: Any = getattr(column, "dtype", None)
     if getattr(dtype, "byteorder", "=") == ">":
         column = column.astype(dtype.newbyteorder("="))  # pyarrow reads no big-endian integers.
@@ -190,13 +187,13 @@ def _has_objects(column: Any) -> bool:
 def _types_of_objects(column: Any) -> set[type]:
     """Return the types of the objects in a list, an array or a categorical of objects, besides None, NA and floats."""
     objects = getattr(getattr(column, "dtype", None), "categories", column)
-    types = set(map(type, getattr(objects, "values", objects))) if _has_objects(objects) else set()
+    types = set(map(type, objects)) if _has_objects(objects) else set()
     return {each for each in types if each.__name__ not in ("NoneType", "NAType", "float")}  # Floats may be NaN.
 
 
 def _pack_objects(column: Any, are_uuids: bool) -> pa.Array | None:
     """Return a list or an array of objects as 16 bytes, or None if a row is not such a number."""
-    rows = column.tolist() if hasattr(column, "tolist") else list(column)
+    rows = list(column)
     missing = getattr(sys.modules.get("pandas"), "NA", None)
     buffers = bytearray((len(rows) + 7) // 8), bytearray(16 * len(rows))
     try:
@@ -376,40 +373,23 @@ class _Conversion:
         return results
 
 
-def _check_type(of_result: _Type, *types: _Type) -> None:
-    if not isinstance(of_result, pa.DataType) or of_result not in types:  # A type equals its name.
-        raise TypeError(f"the type of the result is pyarrow's {' or '.join(map(str, types))}, not {of_result!r}")
-
-
-def _counterpart(name: str) -> str:
-    return name.replace("_uuid", "") if "_uuid" in name else name.replace("code", "code_uuid")
-
-
-def _one(call: Callable[..., Any], characters: Alphabet, width: int) -> Callable[[Any], Any]:
-    """Return the function for one value with its other arguments."""
-    given = () if call.__name__.endswith("_key") else (characters,) if width < 0 else (width, characters)
-    return lambda value: call(value, *given)
-
-
-def _encode(column: object, call: Callable[..., str], options: _Options, kind: _Kind = _NUMBERS, width: int = -1) -> _Array:
+def _convert(
+    column: object, call: Callable[..., Any], options: _Options, kind: _Kind, results: _Results, width: int = -1
+) -> _Array:
+    """Convert by the width of _base62._convert_rows, and by the function for one value."""
     alphabet, errors, of_result = options
-    characters = Alphabet(alphabet)
-    base62.encode(0, characters)  # Raises an exception for an alphabet that is not ASCII.
-    _check_type(of_result, pa.string(), pa.large_string())
-    convert_rows, one = partial(_base62._encode_rows, characters, width), _one(call, characters, width)
-    convert_one = one if kind is _UUIDS else lambda value: one(_number_of(value))
-    return _Conversion(kind, of_result, errors, width, convert_one, convert_rows, _counterpart(call.__name__))(column)
-
-
-def _decode(column: object, call: Callable[..., Any], options: _Options, types: _Decoded, width: int = -1) -> _Array:
-    """Decode by the width of _base62._decode_rows, and by the function for one value."""
-    alphabet, errors, of_result = options
-    characters, counterpart = Alphabet(alphabet), _counterpart(call.__name__)
-    _check_type(of_result, *types)
-    size, finish = types[of_result]
-    convert_rows, one = partial(_base62._decode_rows, characters, width), _one(call, characters, width)
-    convert_one = lambda text: finish(one(text), counterpart)
-    return _Conversion(_STRINGS, of_result, errors, size, convert_one, convert_rows, counterpart)(column)
+    characters, encodes, name = Alphabet(alphabet), results is _ENCODED, call.__name__
+    if encodes:
+        base62.encode(0, characters)  # Raises an exception for an alphabet that is not ASCII.
+    if not isinstance(of_result, pa.DataType) or of_result not in results:  # A type equals its name.
+        raise TypeError(f"the type of the result is pyarrow's {' or '.join(map(str, results))}, not {of_result!r}")
+    size, finish = results[of_result]
+    counterpart = name.replace("_uuid", "") if "_uuid" in name else name.replace("code", "code_uuid")
+    given = () if name.endswith("_key") else (characters,) if width < 0 else (width, characters)
+    value_of = _number_of if kind is _NUMBERS else lambda value: value
+    convert_one = lambda value: finish(call(value_of(value), *given), counterpart)
+    convert_rows = partial(_base62._convert_rows, encodes, characters, width)
+    return _Conversion(kind, of_result, errors, width if encodes else size, convert_one, convert_rows, counterpart)(column)
 
 
 def _places(width: _Width) -> int:
@@ -432,38 +412,38 @@ def encode(column: object, alphabet: AnyAlphabet = _STANDARD, *, errors: _Errors
     >>> columns.encode([1, -1], errors="coerce").to_pylist()
     ['1', None]
     """
-    return _encode(column, base62.encode, (alphabet, errors, type))
+    return _convert(column, base62.encode, (alphabet, errors, type), _NUMBERS, _ENCODED)
 
 
 def encode_uuid(
     column: object, alphabet: AnyAlphabet = _STANDARD, *, errors: _Errors = "raise", type: _Type = pa.string()
 ) -> _Array:
     """Like encode, but encode UUIDs: uuid.UUID objects, 16 bytes, or strings as base62.encode_uuid takes them."""
-    return _encode(column, base62.encode_uuid, (alphabet, errors, type), _UUIDS)
+    return _convert(column, base62.encode_uuid, (alphabet, errors, type), _UUIDS, _ENCODED)
 
 
 def encode_fixed(
     column: object, width: _Width, alphabet: AnyAlphabet = _STANDARD, *, errors: _Errors = "raise", type: _Type = pa.string()
 ) -> _Array:
     """Like encode, but pad each string with leading zeros to exactly width characters."""
-    return _encode(column, base62.encode_fixed, (alphabet, errors, type), width=_places(width))
+    return _convert(column, base62.encode_fixed, (alphabet, errors, type), _NUMBERS, _ENCODED, _places(width))
 
 
 def encode_uuid_fixed(
     column: object, width: _Width, alphabet: AnyAlphabet = _STANDARD, *, errors: _Errors = "raise", type: _Type = pa.string()
 ) -> _Array:
     """Like encode_uuid, but pad each string with leading zeros to exactly width characters."""
-    return _encode(column, base62.encode_uuid_fixed, (alphabet, errors, type), _UUIDS, _places(width))
+    return _convert(column, base62.encode_uuid_fixed, (alphabet, errors, type), _UUIDS, _ENCODED, _places(width))
 
 
 def encode_key(column: object, *, errors: _Errors = "raise", type: _Type = pa.string()) -> _Array:
     """Like encode, but encode to keys: standard strings of 22 characters, which sort in numeric order."""
-    return _encode(column, base62.encode_key, (_STANDARD, errors, type), width=_KEY)
+    return _convert(column, base62.encode_key, (_STANDARD, errors, type), _NUMBERS, _ENCODED, _KEY)
 
 
 def encode_uuid_key(column: object, *, errors: _Errors = "raise", type: _Type = pa.string()) -> _Array:
     """Like encode_key, but encode UUIDs, as encode_uuid takes them."""
-    return _encode(column, base62.encode_uuid_key, (_STANDARD, errors, type), _UUIDS, _KEY)
+    return _convert(column, base62.encode_uuid_key, (_STANDARD, errors, type), _UUIDS, _ENCODED, _KEY)
 
 
 def decode(column: object, alphabet: AnyAlphabet = _STANDARD, *, errors: _Errors = "raise", type: _Type = pa.int64()) -> _Array:
@@ -479,26 +459,26 @@ def decode(column: object, alphabet: AnyAlphabet = _STANDARD, *, errors: _Errors
     base62.InvalidByteError: Encoded input contains the invalid byte b'-' at index 0
     Row 1 of the column is '-'
     """
-    return _decode(column, base62.decode, (alphabet, errors, type), _DECODED_NUMBERS)
+    return _convert(column, base62.decode, (alphabet, errors, type), _STRINGS, _DECODED_NUMBERS)
 
 
 def decode_canonical(
     column: object, alphabet: AnyAlphabet = _STANDARD, *, errors: _Errors = "raise", type: _Type = pa.int64()
 ) -> _Array:
     """Like decode, but accept only canonical strings: those that encode returns."""
-    return _decode(column, base62.decode_canonical, (alphabet, errors, type), _DECODED_NUMBERS, -2)
+    return _convert(column, base62.decode_canonical, (alphabet, errors, type), _STRINGS, _DECODED_NUMBERS, -2)
 
 
 def decode_fixed(
     column: object, width: _Width, alphabet: AnyAlphabet = _STANDARD, *, errors: _Errors = "raise", type: _Type = pa.int64()
 ) -> _Array:
     """Like decode, but accept only strings of the width: those that encode_fixed returns."""
-    return _decode(column, base62.decode_fixed, (alphabet, errors, type), _DECODED_NUMBERS, _places(width))
+    return _convert(column, base62.decode_fixed, (alphabet, errors, type), _STRINGS, _DECODED_NUMBERS, _places(width))
 
 
 def decode_key(column: object, *, errors: _Errors = "raise", type: _Type = pa.int64()) -> _Array:
     """Like decode, but accept only keys: those that encode_key returns."""
-    return _decode(column, base62.decode_key, (_STANDARD, errors, type), _DECODED_NUMBERS, _KEY)
+    return _convert(column, base62.decode_key, (_STANDARD, errors, type), _STRINGS, _DECODED_NUMBERS, _KEY)
 
 
 def decode_uuid(
@@ -508,23 +488,23 @@ def decode_uuid(
 
     Strings are lowercase with hyphens.
     """
-    return _decode(column, base62.decode_uuid, (alphabet, errors, type), _DECODED_UUIDS)
+    return _convert(column, base62.decode_uuid, (alphabet, errors, type), _STRINGS, _DECODED_UUIDS)
 
 
 def decode_uuid_canonical(
     column: object, alphabet: AnyAlphabet = _STANDARD, *, errors: _Errors = "raise", type: _Type = pa.uuid()
 ) -> _Array:
     """Like decode_uuid, but accept only canonical strings: those that encode_uuid returns."""
-    return _decode(column, base62.decode_uuid_canonical, (alphabet, errors, type), _DECODED_UUIDS, -2)
+    return _convert(column, base62.decode_uuid_canonical, (alphabet, errors, type), _STRINGS, _DECODED_UUIDS, -2)
 
 
 def decode_uuid_fixed(
     column: object, width: _Width, alphabet: AnyAlphabet = _STANDARD, *, errors: _Errors = "raise", type: _Type = pa.uuid()
 ) -> _Array:
     """Like decode_uuid, but accept only strings of the width: those that encode_uuid_fixed returns."""
-    return _decode(column, base62.decode_uuid_fixed, (alphabet, errors, type), _DECODED_UUIDS, _places(width))
+    return _convert(column, base62.decode_uuid_fixed, (alphabet, errors, type), _STRINGS, _DECODED_UUIDS, _places(width))
 
 
 def decode_uuid_key(column: object, *, errors: _Errors = "raise", type: _Type = pa.uuid()) -> _Array:
     """Like decode_uuid, but accept only keys: those that encode_uuid_key returns."""
-    return _decode(column, base62.decode_uuid_key, (_STANDARD, errors, type), _DECODED_UUIDS, _KEY)
+    return _convert(column, base62.decode_uuid_key, (_STANDARD, errors, type), _STRINGS, _DECODED_UUIDS, _KEY)

@@ -111,26 +111,26 @@ def each_call() -> Iterator[partial[Any]]:
     for shown in (LETTERS, Alphabet.STANDARD):
         yield partial(repr, shown)
         yield partial(shown.__reduce__)
-    encoding = rows_of(_base62._encode_rows, "w", 2, "U")
+    encoding = rows_of(True, "w", 2, "U")
     yield encoding
-    yield rows_of(_base62._decode_rows, "u", 2, "L")
+    yield rows_of(False, "u", 2, "L")
     yield partial(_base62._pack_rows, [WIDE, None, NAME, Decimal(WIDE)], None, Decimal, False, bytearray(1), bytearray(64))
     # Too few rows, negative offsets, a wrong type, a wrong argument behind the buffers, and one before them.
-    yield rows_of(_base62._encode_rows, "w", 3, "U")
-    yield rows_of(_base62._decode_rows, "u", 2, "L", values=b"\xff" * 32)
-    yield rows_of(_base62._decode_rows, "L", 2, "L")
+    yield rows_of(True, "w", 3, "U")
+    yield rows_of(False, "u", 2, "L", values=b"\xff" * 32)
+    yield rows_of(False, "L", 2, "L")
     yield partial(_base62._pack_rows, [str(NAME), "not a UUID"], None, None, True, bytearray(1), bytearray(32))
     yield partial(_base62._pack_rows, [Decimal("1.5")], None, Decimal, False, bytearray(1), bytearray(16))
     yield partial(_base62._pack_rows, [1], None, None, True, bytearray(1), b"read-only")
     *given, new, coerces = encoding.args
     yield partial(encoding.func, *given, (*new[:3], b"read-only"), coerces)
-    yield partial(encoding.func, "letters", *given[1:], new, coerces)
+    yield partial(encoding.func, True, "letters", *given[2:], new, coerces)
 
 
-def rows_of(call: Call, format: str, count: int, new_format: str, values: bytes = bytes(32)) -> partial[Any]:
-    """A call of the loops for columns, with buffers for two rows."""
+def rows_of(encodes: bool, format: str, count: int, new_format: str, values: bytes = bytes(32)) -> partial[Any]:
+    """A call of the loop for columns, with buffers for two rows."""
     new = bytearray(1), bytearray(32), bytearray(44)
-    return partial(call, LETTERS, 1, (format, 0, count, b"\3", values, b"LZ"), (new_format, *new), True)
+    return partial(_base62._convert_rows, encodes, LETTERS, 1, (format, 0, count, b"\3", values, b"LZ"), (new_format, *new), True)
 
 
 def page(name: str) -> doctest.DocTest:

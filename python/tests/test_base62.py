@@ -74,18 +74,14 @@ REJECTED: list[tuple[list[Call], type[Exception], str, list[Any]]] = [
 
 def others_run(call: Call) -> bool:
     """Whether another thread runs within a call. The switch interval lets none run if the call keeps the GIL."""
-    begins = threading.Event()
-
-    def run() -> None:
-        begins.set()
-        call()
 
     def seen() -> bool:
-        begins.clear()
+        begins = threading.Lock()
         with ThreadPoolExecutor() as pool:
-            other = pool.submit(run)
-            begins.wait()
-            return not other.done()
+            with begins:
+                other = pool.submit(begins.acquire)
+            call()
+            return other.done()
 
     interval = sys.getswitchinterval()
     sys.setswitchinterval(1000)

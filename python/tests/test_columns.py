@@ -114,22 +114,16 @@ class Arrays(ColumnsTestCase):
         for of_type, (of_result, as_result) in product(TEXT_TYPES, UUID_TYPES.items()):
             self.check_forms(pa.array(texts).cast(of_type), each(as_result, names), columns.decode_uuid, of_result)
 
-    def test_strings(self) -> None:
-        numbers = self.some(63)
-        for of_type, of_result in product(TEXT_TYPES, LIMITS):
-            strings = pa.array(each(base62.encode, numbers)).cast(of_type)
-            self.check_forms(strings, numbers, columns.decode_canonical, of_result)
-
     def test_runs(self) -> None:
-        """A signal is handled after each 2^16 rows."""
-        numbers = self.some(63, 3 * 2**16)
-        texts = pa.array(each(base62.encode, numbers))
+        """Signals are handled after each run of 4 megabytes."""
+        numbers, encode = self.some(63, 3 * 2**16), partial(columns.encode_fixed, width=64)
+        texts = pa.array(each(lambda number: base62.encode_fixed(number, 64), numbers))
         names = each(lambda number: str(uuid.UUID(int=number)), numbers)
-        self.check(columns.encode, pa.array(numbers), texts.to_pylist())
+        self.check(encode, pa.array(numbers), texts.to_pylist())
         self.check(columns.decode, texts, numbers)
         self.check(partial(columns.decode_uuid, type=pa.string()), texts, names)
         for bad in (2**16 - 1, 2**16, 2**17 + 5):
-            self.assertEqual(self.raised(base62.OutOfRangeError, columns.encode, [*numbers[:bad], -1]).row, bad)
+            self.assertEqual(self.raised(base62.OutOfRangeError, encode, [*numbers[:bad], -1]).row, bad)
 
     def test_dictionaries(self) -> None:
         """Values that no row has may be invalid, and many. Of others the first row is reported."""
@@ -382,8 +376,9 @@ class Arguments(ColumnsTestCase):
             expected = caught.exception
             rows = [None, *[value] * 300, bad, bad]
             chunks = pa.chunked_array([rows[:7], rows[7:9], rows[9:]])
-            series = pd.Series(rows, range(len(rows), 0, -1), object)
-            for column in (rows, series, chunks, np.array(rows, object), dictionary(pa.array(rows))):
+            series, objects = pd.Series(rows, range(len(rows), 0, -1), object), np.array(rows, object)
+            once = objects.flat, dict(enumerate(rows)).values()
+            for column in (rows, series, chunks, objects, *once, dictionary(pa.array(rows))):
                 error = self.raised(type(expected), call, column, *given)
                 notes = {"row": 301, "__notes__": [f"Row 301 of the column is {bad!r}"]}
                 self.assertEqual((str(error), vars(error)), (str(expected), vars(expected) | notes))
@@ -471,8 +466,9 @@ class Arguments(ColumnsTestCase):
                 self.raised(kind, call, [], width)
         self.raised(base62.OutOfRangeError, columns.encode_fixed, [1], 0)
         self.raised(base62.WrongLengthError, columns.decode_fixed, ["1"], 2**70)
+        self.assertRaises(MemoryError, columns.encode_fixed, [None] * 2, 2**70)
         # Arrow's pool would reserve the first two.
-        with unittest.mock.patch.object(base62._base62, "_encode_rows", side_effect=AssertionError):
+        with unittest.mock.patch.object(base62._base62, "_convert_rows", side_effect=AssertionError):
             for width, numbers in product((10**12, 2**44, 2**62, 2**70), ([1, 2], pa.chunked_array([[1], [2]]))):
                 self.assertRaises(MemoryError, columns.encode_fixed, numbers, width)
             ones = pa.DictionaryArray.from_arrays(pa.array([0] * 2**20, pa.int32()), [1])

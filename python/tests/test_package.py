@@ -180,7 +180,7 @@ class Modules(unittest.TestCase):
             number = base62.decode(text, bytes(alphabet))
             self.assertEqual((again.decode(text, alphabet), again.encode(number, alphabet)), (number, text))
             source, new = ("L", 0, 1, None, number.to_bytes(8, sys.byteorder), None), [*map(bytearray, (1, 16, 11))]
-            self.assertEqual(again._encode_rows(alphabet, -1, source, ("U", *new), False), (1, 2, 0))
+            self.assertEqual(again._convert_rows(True, alphabet, -1, source, ("U", *new), False), (1, 2, 0))
             self.assertEqual(new[2][:2], text.encode())
 
     def test_unload(self) -> None:

@@ -8,7 +8,7 @@ import unittest
 import unittest.mock
 import uuid
 from array import array
-from itertools import accumulate, pairwise, product
+from itertools import accumulate, pairwise
 from typing import Any
 
 import base62
@@ -23,9 +23,9 @@ TEXTS = "uzUZ"
 FORMATS = {True: ("LldwuzUZ", "uU"), False: (TEXTS, "LldwuU")}
 GREATEST = {"l": 2**63 - 1, "L": 2**64 - 1, "d": 10**38 - 1}
 LIMITS = [number + more for number in GREATEST.values() for more in (0, 1)]
-ALPHABETS = [base62.Alphabet.STANDARD, LETTERS]
-# No input has more rows than a run of the loop, of which there are tests of their own.
-RUN = 2**16
+STANDARD = base62.Alphabet.STANDARD
+# In this one the zero is the null byte.
+LOWEST = base62.Alphabet(bytes(range(62)))
 MALFORMED = "the array is malformed"
 
 
@@ -48,11 +48,15 @@ def number_at(format: str, values: "array[int]", index: int) -> int:
     return int.from_bytes(values[index * size : index * size + size], ORDERS[format], signed=format not in "Lw")
 
 
+def convert(encodes: bool, source: Any, result: Any, coerces: bool = False, letters: Any = STANDARD, option: int = -1) -> Any:
+    return _base62._convert_rows(encodes, letters, option, source, result, coerces)
+
+
 class Input:
     """The arguments of a call, and what it has to do."""
 
     def __init__(self, rng: random.Random, encodes: bool) -> None:
-        self.rng, self.encodes, self.letters = rng, encodes, rng.choice(ALPHABETS)
+        self.rng, self.encodes, self.letters = rng, encodes, rng.choice([STANDARD, LETTERS])
         self.format, self.new_format = (rng.choice(value) for value in FORMATS[encodes])
         # A width, or -1. To decode canonical strings it is -2.
         self.option = rng.choice([-1, -1 if encodes else -2, 0, 5, 22, rng.randrange(40)])
@@ -103,7 +107,7 @@ class Input:
         key: Any = rng.randrange(3) if place == "new" else place
         if place in ("option", "offset", "count"):
             other = rng.choice([rng.randrange(30), rng.getrandbits(64) - 2**63])
-            parts[key] = rng.choice([-1, -2, -(2**63), 2**63 - 1, 2**62, 2**60, 2**32, other])
+            parts[key] = rng.choice([-1, -2, -(2**63), 2**63 - 1, 2**63 - 1 - abs(self.count), 2**62, 2**32, other])
         elif place in ("format", "new_format"):
             # Another type, or one of which a char would be the letter of a type, or the end of a string.
             parts[key] = chr(rng.choice([0, 256]) + rng.choice(b"LldwuzUZ\0"))
@@ -182,11 +186,11 @@ class Input:
     def check(self) -> bool:
         """Whether the array is well-formed."""
         expected = self.expected()
-        call: Any = _base62._encode_rows if self.encodes else _base62._decode_rows
         # An array lacks the buffer of its characters if it has none.
         source = self.format, self.offset, self.count, self.validity, self.values, self.characters or None
         try:
-            row, used, nulls = call(self.letters, self.option, source, (self.new_format, *self.new), self.coerces)
+            result = self.new_format, *self.new
+            row, used, nulls = convert(self.encodes, source, result, self.coerces, self.letters, self.option)
         except ValueError as error:
             assert expected is None and str(error) == MALFORMED, (vars(self), expected, error)
         else:
@@ -210,17 +214,17 @@ class Inputs(unittest.TestCase):
 
 
 class Runs(unittest.TestCase):
-    """Columns of more than one run of rows. Each third row is null."""
+    """Long columns, which the loop converts in several runs. No input is so long. Each third row is null."""
 
     def encoded(self, count: int) -> Any:
         """The buffers of the result, and what encodes so many rows."""
         new = bytearray((count + 7) // 8), bytearray(4 * count + 4), bytearray(11 * count)
         validity = bitmap([row % 3 != 0 for row in range(24)]) * (count // 24 + 1)
         source = "l", 0, count, validity, bytes(8 * count), None
-        return new, lambda: _base62._encode_rows(ALPHABETS[0], -1, source, ("u", *new), False)
+        return new, lambda: convert(True, source, ("u", *new))
 
     def test_gil(self) -> None:
-        self.assertTrue(others_run(self.encoded(3 * RUN)[1]))
+        self.assertTrue(others_run(self.encoded(2**20)[1]))
 
     def check_interrupted(self, new: Any, call: Any) -> None:
         """A signal is handled between runs: the last one is not begun."""
@@ -244,7 +248,7 @@ class Runs(unittest.TestCase):
             each.append(0)
 
     def test_signals(self) -> None:
-        new, call = self.encoded(60 * RUN)
+        new, call = self.encoded(2**22)
         self.check_interrupted(new, call)
         self.assertEqual(new[0][0], 0b10110110)
 
@@ -252,11 +256,10 @@ class Runs(unittest.TestCase):
         """A run of long strings has fewer rows, both of a column and of a result."""
         length, result = 2**25, (bytearray(4), bytearray(), bytearray(256))
         source = "U", 0, 32, None, to_bytes("U", *range(0, 33 * length, length)), pages(32 * length)
-        zeros = base62.Alphabet(bytes(range(62)))
-        self.check_interrupted(result, lambda: _base62._decode_rows(zeros, -1, source, ("l", *result), False))
+        self.check_interrupted(result, lambda: convert(False, source, ("l", *result), letters=LOWEST))
         result = bytearray(4), bytearray(33 * 8), bytearray(32 * length)
-        call: Any = lambda: _base62._encode_rows(zeros, length, ("l", 0, 32, None, bytes(256), None), ("U", *result), False)
-        self.check_interrupted(result, call)
+        numbers = "l", 0, 32, None, bytes(256), None
+        self.check_interrupted(result, lambda: convert(True, numbers, ("U", *result), option=length))
 
 
 class Objects(unittest.TestCase):
@@ -296,36 +299,27 @@ class Far(unittest.TestCase):
             values[place : place + 2 * size] = to_bytes(format, *((0, 1) if format in TEXTS else (7, 0)))
             source, new = (format, offset, 2, validity, values, b"7"), (bytearray(1), bytearray(32), bytearray(64))
             if format in TEXTS:
-                self.assertEqual(_base62._decode_rows(ALPHABETS[0], -1, source, ("L", *new), True), (2, 0, 1))
+                self.assertEqual(convert(False, source, ("L", *new), True), (2, 0, 1))
                 self.assertEqual(memoryview(new[2]).cast("Q")[1], 7)
             else:
-                self.assertEqual(_base62._encode_rows(ALPHABETS[0], -1, source, ("u", *new), True), (2, 1, 1))
+                self.assertEqual(convert(True, source, ("u", *new), True), (2, 1, 1))
                 self.assertEqual(new[2][:1], b"7")
             values.close()
 
-    def test_end(self) -> None:
-        """What is behind the last row, or the last byte of its bitmap, has an index above sys.maxsize."""
-        for format, count in product(TEXTS, range(8)):
-            source, new = (format, sys.maxsize - count, count, None, b"", None), (bytearray(1), bytearray(0), bytearray(64))
-            self.assertRaisesRegex(ValueError, MALFORMED, _base62._decode_rows, ALPHABETS[0], -1, source, ("L", *new), True)
-
     def test_small_offsets(self) -> None:
         """Offsets of 32 bits are for fewer than 2^31 characters."""
-        for size in (2**31 - 1, 2**31):
-            given = ("l", 0, 1, b"\0", bytes(8), None), ("u", bytearray(1), bytearray(8), pages(size)), False
-            if size < 2**31:
-                self.assertEqual(_base62._encode_rows(ALPHABETS[0], -1, *given), (1, 0, 1))
-            else:
-                self.assertRaisesRegex(ValueError, MALFORMED, _base62._encode_rows, ALPHABETS[0], -1, *given)
+        given = "l", 0, 1, b"\0", bytes(8), None
+        self.assertEqual(convert(True, given, ("u", bytearray(1), bytearray(8), pages(2**31 - 1))), (1, 0, 1))
+        with self.assertRaisesRegex(ValueError, MALFORMED):
+            convert(True, given, ("u", bytearray(1), bytearray(8), pages(2**31)))
 
     def test_characters(self) -> None:
         """The last string has more than 2^31 characters, of which nearly all are the zero of its alphabet."""
         end = 2**32 + 2**31 + 2
         characters, values = pages(end), array("B", bytes(8))
         result = "L", bytearray(1), bytearray(), values
-        other = base62.Alphabet(bytes(range(62)))
-        for letters, text, length, number in ((ALPHABETS[0], b"LZ", 2, 1337), (other, b"\1\2", 2**31 + 2, 64)):
+        for letters, text, length, number in ((STANDARD, b"LZ", 2, 1337), (LOWEST, b"\1\2", 2**31 + 2, 64)):
             characters[-2:] = text
             source = "U", 0, 1, None, to_bytes("U", end - length, end), characters
-            self.assertEqual(_base62._decode_rows(letters, -1, source, result, False), (1, 0, 0))
+            self.assertEqual(convert(False, source, result, letters=letters), (1, 0, 0))
             self.assertEqual(number_at("L", values, 0), number)

@@ -1,53 +1,35 @@
-"""What mypy finds in calls: exactly these types, and an error in each marked line. Nothing here is run.
+"""What mypy finds in the package: exactly these types, and an error in each marked line. Nothing here is run.
 
-Parameters of one name have one type, and functions return those of the stub, which test_package.py shows: one function gets
-each right and each wrong argument."""
+Of functions it is enough that test_package.py compares the stub with the names of these types, and with results."""
 
 from typing import SupportsIndex, assert_type
 from uuid import UUID
 
 import base62
-from base62 import Alphabet, AlphabetError, DecodeError, InvalidByteError, WrongLengthError
-
-Custom = Alphabet | str | bytes
-Name = UUID | str | bytes
-# No buffer is taken for bytes: mypy runs without its promotions.
-Text = str | bytes | bytearray | memoryview
+from base62 import Alphabet, AlphabetError, AnyAlphabet, AnyUUID, DecodeError, EncodedString, InvalidByteError, Number
+from base62 import WrongLengthError
 
 
-def right(number: SupportsIndex | UUID, name: Name, text: Text, width: SupportsIndex, custom: Custom) -> None:
-    assert_type((Alphabet(custom), Alphabet.STANDARD, Alphabet.ALTERNATIVE), tuple[Alphabet, Alphabet, Alphabet])
-    assert_type(base62.encode(number, custom), str)
-    assert_type(base62.encode_uuid(name, custom), str)
-    assert_type(base62.encode_uuid_fixed(name, width, custom), str)
-    assert_type(base62.encode_uuid_key(name), str)
-    assert_type(base62.decode_uuid_fixed(text, width, custom), UUID)
+def right(number: Number, value: AnyUUID, text: EncodedString, alphabet: AnyAlphabet) -> None:
+    assert_type((number, value), tuple[SupportsIndex | UUID, UUID | str | bytes])
+    # No buffer is taken for bytes: mypy runs without its promotions.
+    assert_type((text, alphabet), tuple[str | bytes | bytearray | memoryview, Alphabet | str | bytes])
+    assert_type((Alphabet(b""), Alphabet.STANDARD, Alphabet.ALTERNATIVE), tuple[Alphabet, Alphabet, Alphabet])
+    assert_type((base62.encode(number, alphabet), base62.__version__), tuple[str, str])
     assert_type(base62.key_bounds(text), tuple[str, str] | None)
-    assert_type(base62.prefix_range(text, width, custom), tuple[int, int] | None)
-    assert_type(base62.__version__, str)
 
 
 def attributes(invalid: InvalidByteError, repeated: AlphabetError, wrong: WrongLengthError) -> None:
-    assert_type((invalid.byte, invalid.index), tuple[int, int])
-    assert_type((repeated.byte, repeated.index), tuple[int, int])
+    assert_type((invalid.byte, invalid.index, repeated.byte, repeated.index), tuple[int, int, int, int])
     assert_type((wrong.length, wrong.width), tuple[int, int])
     fault: DecodeError = invalid
     fault.byte  # type: ignore[attr-defined]
     fault = repeated  # type: ignore[assignment]
 
 
-def wrong(number: int, name: UUID, text: str, custom: Alphabet, view: memoryview) -> None:
+def wrong(number: int, text: str, custom: Alphabet) -> None:
     base62.encode(text)  # type: ignore[arg-type]
-    base62.encode(1.0)  # type: ignore[arg-type]
-    base62.encode(number, None)  # type: ignore[arg-type]
-    base62.encode(number, view)  # type: ignore[arg-type]
-    base62.decode(number)  # type: ignore[arg-type]
-    base62.encode_fixed(number, name)  # type: ignore[arg-type]
     base62.key_bounds(number)  # type: ignore[arg-type]
-    base62.encode_uuid(number)  # type: ignore[arg-type]
-    base62.encode_uuid(bytearray(16))  # type: ignore[arg-type]
-    base62.encode_uuid(view)  # type: ignore[arg-type]
-    Alphabet(number)  # type: ignore[arg-type]
     custom.characters  # type: ignore[attr-defined]
     custom.name = text  # type: ignore[attr-defined]
 

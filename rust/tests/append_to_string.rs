@@ -3,10 +3,12 @@
 
 mod support;
 
+use base62::Alphabet;
 use std::alloc::{GlobalAlloc, Layout, System};
 use std::cell::Cell;
 use std::process::Command;
-use support::{alphabets, bytes, rows};
+use std::str;
+use support::{bytes, each};
 
 thread_local! {
     static REQUESTS: Cell<usize> = const { Cell::new(0) };
@@ -50,19 +52,19 @@ fn appends(text: &str, call: impl Fn(&mut String)) {
 
 #[test]
 fn each_length_in_each_capacity() {
-    let alphabets = alphabets();
-    for row in rows("encode") {
-        let (alphabet, number) = (&alphabets[row[0]], row[1].parse::<u128>().unwrap());
+    each("encode", |alphabet, row| {
         if alphabet.is_ascii() {
-            let text = String::from_utf8(bytes(row[2])).unwrap();
-            appends(&text, |buf| base62::encode_buf_with(alphabet, number, buf));
-            match row[0] {
-                "standard" => appends(&text, |buf| base62::encode_buf(number, buf)),
-                "alternative" => appends(&text, |buf| base62::encode_alternative_buf(number, buf)),
-                _ => (),
+            let (num, text) = (row[0].parse::<u128>().unwrap(), bytes(row[1]));
+            let text = str::from_utf8(&text).unwrap();
+            appends(text, |buf| base62::encode_buf_with(alphabet, num, buf));
+            if *alphabet == Alphabet::standard() {
+                appends(text, |buf| base62::encode_buf(num, buf));
+            }
+            if *alphabet == Alphabet::alternative() {
+                appends(text, |buf| base62::encode_alternative_buf(num, buf));
             }
         }
-    }
+    });
 }
 
 #[test]
@@ -76,7 +78,7 @@ fn refused_memory_ends_the_program() {
         std::process::exit(0);
     }
     let mut child = Command::new(std::env::current_exe().unwrap());
-    child.args(["--exact", "refused_memory_ends_the_program"]);
+    child.arg("refused_memory_ends_the_program");
     let output = child.env(CHILD, "").output().unwrap();
     assert!(!output.status.success());
     let said = String::from_utf8(output.stderr).unwrap();

@@ -1,16 +1,20 @@
 """Tests of SQLite's functions, in the module that BASE62_SQLITE names."""
 
+import _sqlite3
+import ctypes
+import itertools
 import os
 import re
 import sqlite3
 import sys
 import tempfile
 import unittest
+from collections.abc import Callable, Iterator
 from typing import Any
 from urllib.parse import unquote_to_bytes
 from uuid import UUID
 
-from values import BIGINT, HEADER, KEY, OWN, SEARCHES, TEXTS
+from values import ALPHABETS, BIGINT, HEADER, KEY, OWN, SEARCHES, TEXTS
 from values import Database, Error, Text, Width, arguments_by_result, bigint, calls_of, negative, rows, shown, string_of
 from values import uuid, uuid_hint
 
@@ -147,6 +151,121 @@ class Functions(Case):
         self.db.setlimit(sqlite3.SQLITE_LIMIT_LENGTH, 100)
         for name, given in (("encode_fixed", (0, 101)), ("encode_fixed", (0, 101, OWN)), ("first_string", ("0", 101))):
             self.assertEqual(self.result(name, *given), "string or blob too big")
+
+
+class Methods(ctypes.Structure):
+    """The functions by which SQLite allocates memory, and others."""
+
+    _fields_ = [
+        ("malloc", ctypes.CFUNCTYPE(ctypes.c_void_p, ctypes.c_int)),
+        ("free", ctypes.c_void_p),
+        ("realloc", ctypes.CFUNCTYPE(ctypes.c_void_p, ctypes.c_void_p, ctypes.c_int)),
+        ("others", ctypes.c_void_p * 5),
+    ]
+
+
+ROW = 100
+
+
+class Allocations(unittest.TestCase):
+    """Each decreases `left`, and fails if that is 0 then. Python's own functions would allocate with an exception set."""
+
+    def setUp(self) -> None:
+        self.left = 0
+        self.library = ctypes.CDLL(_sqlite3.__file__)
+        self.default, self.counted = Methods(), Methods()
+        for methods in (self.default, self.counted):
+            self.configure(5, methods)  # SQLITE_CONFIG_GETMALLOC
+        malloc, realloc = self.default.malloc, self.default.realloc
+        self.counted.malloc = type(malloc)(lambda size: None if self.fails() else malloc(size))
+        self.counted.realloc = type(realloc)(lambda memory, size: None if self.fails() else realloc(memory, size))
+        self.configure(4, self.counted)  # SQLITE_CONFIG_MALLOC
+        self.addCleanup(self.configure, 4, self.default)
+        self.db = ctypes.c_void_p()
+        self.addCleanup(lambda: self.library.sqlite3_close(self.db))
+        self.open()
+
+    def configure(self, option: int, methods: Methods) -> None:
+        """While no database is open: what is allocated then has leaked."""
+        self.library.sqlite3_shutdown()
+        self.assertEqual(self.library.sqlite3_memory_used(), 0)
+        self.assertEqual(self.library.sqlite3_config(option, ctypes.byref(methods)), sqlite3.SQLITE_OK)
+        self.library.sqlite3_config(13, 0, 0)  # SQLITE_CONFIG_LOOKASIDE
+
+    def fails(self) -> bool:
+        self.left -= 1
+        return self.left == 0
+
+    def open(self) -> None:
+        self.library.sqlite3_open(b":memory:", ctypes.byref(self.db))
+        self.library.sqlite3_enable_load_extension(self.db, 1)
+
+    def load(self) -> int:
+        return self.library.sqlite3_load_extension(self.db, MODULE.encode(), None, None)
+
+    def execute(self, query: str) -> tuple[int, int]:
+        """The status of the first step, and the integer that it returns."""
+        statement = ctypes.c_void_p()
+        status = self.library.sqlite3_prepare_v2(self.db, query.encode(), -1, ctypes.byref(statement), None)
+        status = status or self.library.sqlite3_step(statement)
+        value = self.library.sqlite3_column_int(statement, 0)
+        self.library.sqlite3_finalize(statement)
+        return status, value
+
+    def results(self, call: Callable[[], Any]) -> Iterator[Any]:
+        """What it returns if its first allocation fails, its second, and so on, and at last if none does."""
+        for self.left in itertools.count(1):
+            result = call()
+            reached, self.left = self.left <= 0, 0
+            yield result
+            if not reached:
+                return
+
+    def test_load(self) -> None:
+        """A module that loads has the first functions and the last one."""
+        names = "SELECT base62_encode(1), base62_encode_uuid(zeroblob(16)), base62_version()"
+        for status in self.results(self.load):
+            if status == sqlite3.SQLITE_OK:
+                self.assertEqual(self.execute(names), (ROW, 1))
+            self.library.sqlite3_close(self.db)
+            self.open()
+        self.assertEqual(status, sqlite3.SQLITE_OK)
+
+    def test_calls(self) -> None:
+        """For all types of arguments and results of each function, with texts in UTF-16, which have to be converted."""
+
+        def literal(value: Any) -> str:
+            text = value.decode() if isinstance(value, Text) else value
+            if isinstance(text, str):
+                return f"CAST(x'{text.encode('utf-16-le').hex()}' AS TEXT)"
+            return f"x'{value.hex()}'" if isinstance(value, bytes) else "NULL" if value is None else str(value)
+
+        self.load()
+        self.execute("PRAGMA encoding = 'UTF-16le'")
+        cases = {(name, *map(type, given), type(result)): (name, given, result) for name, given, result in reversed(CALLS)}
+        calls = [(f"{name}({', '.join(map(literal, given))})", result) for name, given, result in cases.values()]
+        error = Error("", "")
+        for call, result in [*calls, ("encode_uuid(zeroblob(16))", "0"), ("encode_uuid('LZ')", error), ("decode(1337)", error)]:
+            fails = isinstance(result, Error)
+            expected = (sqlite3.SQLITE_ERROR, 0) if fails else (ROW, 1)
+            query = f"SELECT base62_{call} IS {'NULL' if fails else literal(result)}"
+            *failed, last = self.results(lambda: self.execute(query))
+            self.assertEqual(last, expected, query)
+            self.assertLessEqual({*failed}, {expected, (sqlite3.SQLITE_NOMEM, 0)}, query)
+
+    def test_rows(self) -> None:
+        """For all rows a constant alphabet is created once, and alphabets that change take no more memory with each row."""
+        self.load()
+        self.execute("CREATE TABLE many AS WITH r (n) AS (SELECT 1 UNION ALL SELECT n + 1 FROM r LIMIT 10000) SELECT n FROM r")
+        either = f"CASE n % 2 WHEN 0 THEN '{OWN}' ELSE '{ALPHABETS['alternative']}' END"
+        conditions = {f"base62_is_valid(n, '{OWN}') = 0": 100, f"base62_encode_fixed(n, 5 + n % 2, '{OWN}') > ''": 100}
+        conditions[f"base62_decode(base62_encode(n, {either}), {either}) = n"] = 100000
+        for condition, most in conditions.items():
+            self.library.sqlite3_memory_highwater(1)
+            used, self.left = self.library.sqlite3_memory_used(), 0
+            self.assertEqual(self.execute(f"SELECT count(*) FROM many WHERE {condition}"), (ROW, 10000))
+            self.assertLess(-self.left, most)
+            self.assertLess(self.library.sqlite3_memory_highwater(0) - used, 30000)
 
 
 TABLES = """

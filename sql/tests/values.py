@@ -7,13 +7,10 @@ from typing import Any, NamedTuple
 from urllib.parse import unquote_to_bytes
 from uuid import UUID
 
-# The file of values is in the repository's tests, and beside this one in an archive of the functions.
-HERE = Path(__file__).resolve().parent
-FOLDERS = HERE, HERE.parents[1] / "tests"
-VALUES = next(folder / "values.tsv" for folder in FOLDERS if (folder / "values.tsv").exists())
-ROWS = [line.split("\t") for line in VALUES.read_text().split("\n") if line and not line.startswith("#")]
-README, KEYS = ((HERE.parent / page).read_text() for page in ("README.md", "KEYS.md"))
-HEADER = next(path for path in (HERE.parent / "base62.h", HERE.parents[1] / "c/base62.h") if path.exists()).read_text()
+TOP = Path(__file__).resolve().parents[2]
+ROWS = [line.split("\t") for line in (TOP / "tests/values.tsv").read_text().split("\n") if line and not line.startswith("#")]
+README, KEYS = ((TOP / "sql" / page).read_text() for page in ("README.md", "KEYS.md"))
+HEADER = (TOP / "c/base62.h").read_text()
 
 
 class Text(bytes):

@@ -55,17 +55,12 @@ impl Random {
     /// A string for a UUID in each form, or one that has another byte than such a string.
     fn uuid_string(&mut self, uuid: u128) -> Vec<u8> {
         let hyphenated = proved::uuid_to_string(uuid.to_be_bytes());
-        let string = match self.below(2) {
-            0 => format!("{uuid:032x}"),
-            _ => String::from_utf8(hyphenated.to_vec()).unwrap(),
-        };
-        let string = match self.below(4) {
-            0 => format!("{{{string}}}"),
-            1 => format!("urn:uuid:{string}"),
-            _ => string,
-        };
-        let cases = |byte: u8| [byte, byte.to_ascii_uppercase()][self.below(2)];
-        let mut string: Vec<u8> = string.bytes().map(cases).collect();
+        let digits = [format!("{uuid:032x}").as_bytes(), &hyphenated][self.below(2)].to_vec();
+        let (before, after) = [("", ""), ("", ""), ("{", "}"), ("urn:uuid:", "")][self.below(4)];
+        let mut string = [before.as_bytes(), &digits, after.as_bytes()].concat();
+        for byte in string.iter_mut().filter(|_| self.below(2) == 0) {
+            byte.make_ascii_uppercase();
+        }
         if self.below(3) == 0 {
             let index = self.below(string.len());
             string[index] = b"-{}:gU0"[self.below(7)];
@@ -73,13 +68,10 @@ impl Random {
         string
     }
 
-    /// Any bytes or ASCII ones, and the same with one of them put in another place.
-    fn letters(&mut self) -> ([u8; 62], [u8; 62]) {
+    /// The characters of an alphabet: any bytes, or ASCII ones.
+    fn letters(&mut self) -> [u8; 62] {
         let mut bytes: Vec<u8> = (0..=[127, 255][self.below(2)]).collect();
-        let letters = std::array::from_fn(|_| bytes.swap_remove(self.below(bytes.len())));
-        let mut repeated = letters;
-        repeated[self.below(62)] = letters[self.below(62)];
-        (letters, repeated)
+        std::array::from_fn(|_| bytes.swap_remove(self.below(bytes.len())))
     }
 }
 
@@ -89,12 +81,9 @@ pub struct Input {
     pub number: u128,
     pub text: Vec<u8>,
     pub uuid_string: Vec<u8>,
-    /// Those of an alphabet, and of none.
-    pub letters: ([u8; 62], [u8; 62]),
+    pub letters: [u8; 62],
     pub width: usize,
-    /// Of a buffer: what is in it, and which part of it a call gets.
-    fill: u8,
-    start: usize,
+    /// Of the buffer that a call gets.
     size: usize,
 }
 
@@ -107,16 +96,14 @@ impl Input {
             uuid_string: random.uuid_string(number),
             letters: random.letters(),
             width: random.below(30),
-            fill: random.word() as u8,
-            start: random.below(9),
             size: random.below(27),
         }
     }
 
     /// What a call answers that gets a part of a larger buffer, and all bytes of that one.
     pub fn buffer<T>(&self, call: impl FnOnce(&mut [u8]) -> T) -> (T, [u8; 48]) {
-        let mut buffer = [self.fill; 48];
-        let answer = call(&mut buffer[self.start..][..self.size]);
+        let mut buffer = [b'?'; 48];
+        let answer = call(&mut buffer[9..][..self.size]);
         (answer, buffer)
     }
 }

@@ -57,7 +57,6 @@ fn string_of(call: impl FnOnce(&mut [u8]) -> Result<usize, EncodeError>) -> Vec<
 fn calls_of_number(input: &Input, ours: &Alphabet, theirs: &library::Alphabet) -> usize {
     let number = input.number;
     same! { input, library, own = ours, theirs;
-        shown(Alphabet::new(input.letters.1)).err(),
         input.buffer(|buf| encode_bytes(number, buf)),
         input.buffer(|buf| encode_alternative_bytes(number, buf)),
         input.buffer(|buf| encode_bytes_with(own, number, buf)),
@@ -72,7 +71,7 @@ fn calls_of_number(input: &Input, ours: &Alphabet, theirs: &library::Alphabet) -
 /// `custom` is the number over the alphabet.
 fn strings(input: &Input, ours: &Alphabet, theirs: &library::Alphabet, custom: &[u8]) -> usize {
     let (number, uuid) = (input.number, input.number.to_be_bytes());
-    let standard = string_of(|buf| library::encode_bytes(library::from_uuid(uuid), buf));
+    let standard = string_of(|buf| library::encode_bytes(number, buf));
     let alternative = string_of(|buf| library::encode_alternative_bytes(number, buf));
     let fixed = input.buffer(|places| library::encode_fixed(number, places));
     let custom_fixed = input.buffer(|places| library::encode_fixed_with(theirs, number, places));
@@ -126,17 +125,17 @@ fn calls_of_text(input: &Input, ours: &Alphabet, theirs: &library::Alphabet, tex
     };
     calls
         + equal! { input;
-            shown(decode_uuid(text)) => library::decode(text).map(library::to_uuid),
-            shown(decode_uuid_with(ours, text)) => library::decode_with(theirs, text).map(library::to_uuid),
-            shown(decode_uuid_canonical(text)) => library::decode_canonical(text).map(library::to_uuid),
+            shown(decode_uuid(text)) => library::decode(text).map(u128::to_be_bytes),
+            shown(decode_uuid_with(ours, text)) => library::decode_with(theirs, text).map(u128::to_be_bytes),
+            shown(decode_uuid_canonical(text)) => library::decode_canonical(text).map(u128::to_be_bytes),
             shown(decode_uuid_canonical_with(ours, text))
-                => library::decode_canonical_with(theirs, text).map(library::to_uuid),
+                => library::decode_canonical_with(theirs, text).map(u128::to_be_bytes),
         }
 }
 
 fn round(input: &Input) -> usize {
-    let ours = Alphabet::new(input.letters.0).unwrap();
-    let theirs = library::Alphabet::new(input.letters.0).unwrap_or_else(|error| panic!("{error}"));
+    let ours = Alphabet::new(input.letters).unwrap();
+    let theirs = library::Alphabet::new(input.letters);
     let custom = string_of(|buf| library::encode_bytes_with(&theirs, input.number, buf));
     let calls = calls_of_number(input, &ours, &theirs) + strings(input, &ours, &theirs, &custom);
     #[cfg(feature = "original")]
@@ -146,11 +145,8 @@ fn round(input: &Input) -> usize {
 }
 
 fn main() {
-    let arguments: Vec<u64> = env::args()
-        .skip(1)
-        .map(|text| text.parse().unwrap())
-        .collect();
-    let (wanted, mut random, mut calls) = (arguments[0], Random(arguments[1].into()), 0);
+    let argument = |place| env::args().nth(place).unwrap().parse::<u64>().unwrap();
+    let (wanted, mut random, mut calls) = (argument(1), Random(argument(2).into()), 0);
     while calls < wanted as usize {
         calls += round(&Input::new(&mut random));
     }
@@ -164,21 +160,17 @@ mod library {
 
     #[repr(C)]
     #[derive(Clone, Copy, Default)]
-    struct Number {
-        high: u64,
-        low: u64,
-    }
+    struct Number([u64; 2]);
 
     impl From<u128> for Number {
         fn from(num: u128) -> Self {
-            let (high, low) = ((num >> 64) as u64, num as u64);
-            Number { high, low }
+            Number([(num >> 64) as u64, num as u64])
         }
     }
 
     impl Number {
         fn value(self) -> u128 {
-            u128::from(self.high) << 64 | u128::from(self.low)
+            u128::from(self.0[0]) << 64 | u128::from(self.0[1])
         }
     }
 
@@ -203,8 +195,6 @@ mod library {
             letters: &[u8; 62],
             bad: &mut BadByte,
         ) -> u32;
-        safe fn base62_from_uuid(uuid: &[u8; 16]) -> Number;
-        safe fn base62_to_uuid(number: Number, uuid: &mut [u8; 16]);
         fn base62_error_message(status: u32, bad: BadByte, start: *mut u8, size: usize) -> usize;
         fn base62_uuid_from_string(start: *const u8, length: usize, uuid: &mut [u8; 16]) -> u32;
         safe fn base62_uuid_to_string(uuid: &[u8; 16], string: &mut [u8; 36]);
@@ -297,14 +287,6 @@ mod library {
         base62_digit_count(num.into())
     }
 
-    pub fn from_uuid(uuid: [u8; 16]) -> u128 {
-        base62_from_uuid(&uuid).value()
-    }
-
-    pub fn to_uuid(num: u128) -> [u8; 16] {
-        written(|uuid| base62_to_uuid(num.into(), uuid))
-    }
-
     pub fn uuid_from_string(string: &[u8]) -> Result<[u8; 16], String> {
         let mut uuid = [0; 16];
         // SAFETY: a slice is valid for reads of its length.
@@ -319,12 +301,10 @@ mod library {
     }
 
     impl Alphabet {
-        pub fn new(characters: [u8; 62]) -> Result<Self, String> {
+        pub fn new(characters: [u8; 62]) -> Self {
             let (mut own, mut bad) = (Alphabet([0; 318]), BadByte::default());
-            match base62_alphabet_init(&mut own, &characters, &mut bad) {
-                0 => Ok(own),
-                status => Err(message(status, bad)),
-            }
+            assert_eq!(base62_alphabet_init(&mut own, &characters, &mut bad), 0);
+            own
         }
     }
 }

@@ -76,26 +76,19 @@ macro_rules! append_zeros {
 #[inline(always)]
 pub(crate) fn fill<T: Copy>(places: &mut [T], value: T) {
     let len = places.len();
-    assert!(len <= 24);
     if len > 9 {
-        *places[(len - 8).min(8)..].first_chunk_mut().unwrap() = [value; 8];
-        fill_ends::<8, T>(places, value);
+        for start in [0, (len - 8).min(8), len - 8] {
+            *places[start..].first_chunk_mut().unwrap() = [value; 8];
+        }
     } else if len > 4 {
-        places[len / 2] = value;
-        fill_ends::<4, T>(places, value);
+        for start in [0, 1, len - 4] {
+            *places[start..].first_chunk_mut().unwrap() = [value; 4];
+        }
     } else {
-        for index in [0, len / 4, len / 2, len - 1] {
-            places[index] = value;
+        for start in [0, len / 4, len / 2, len - 1] {
+            places[start] = value;
         }
     }
-}
-
-/// Writes a value to the first `N` places and to the last `N`.
-#[cfg(all(feature = "alloc", not(feature = "checked")))]
-#[inline(always)]
-fn fill_ends<const N: usize, T: Copy>(places: &mut [T], value: T) {
-    *places.first_chunk_mut().unwrap() = [value; N];
-    *places.last_chunk_mut().unwrap() = [value; N];
 }
 
 /// Asserts the precondition of a public call, since its callers in Rust do not prove it.
@@ -109,36 +102,27 @@ pub(crate) fn assert_ascii(alphabet: &crate::Alphabet) {
 }
 
 #[cfg(test)]
-#[cfg(all(feature = "alloc", not(feature = "checked")))]
-mod fill_tests {
-    use super::fill;
-
+mod tests {
+    #[cfg(all(feature = "alloc", not(feature = "checked")))]
     #[test]
-    fn each_place_is_written() {
+    fn each_place_is_filled() {
         for len in 1..=24 {
             let mut places = [1; 26];
-            fill(&mut places[1..=len], 0);
+            super::fill(&mut places[1..=len], 0);
             assert_eq!((places[0], &places[1..=len]), (1, &[0; 24][..len]));
             assert_eq!(places[len + 1..], [1; 25][len..]);
         }
     }
 
-    #[test]
-    #[should_panic(expected = "assertion failed: len <= 24")]
-    fn more_places_panic() {
-        fill(&mut [1; 25], 0);
-    }
-}
-
-// In a release build a false precondition is undefined behaviour.
-#[cfg(all(test, debug_assertions))]
-mod tests {
+    // In a release build a false precondition is undefined behaviour.
+    #[cfg(debug_assertions)]
     #[test]
     #[should_panic(expected = "assertion failed: k <= 10")]
     fn a_false_clause_of_the_source_panics() {
         crate::powers::power(11);
     }
 
+    #[cfg(debug_assertions)]
     #[test]
     #[should_panic(expected = "assertion failed: bytes.is_ascii()")]
     fn a_text_that_is_not_ascii_panics() {

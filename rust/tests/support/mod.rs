@@ -6,8 +6,6 @@ use std::collections::HashMap;
 use std::fs;
 use std::sync::LazyLock;
 
-pub const STANDARD: &[u8; 62] = b"0123456789ABCDEFGHIJKLMNOPQRSTUVWXYZabcdefghijklmnopqrstuvwxyz";
-
 /// The values that the tests of all packages share.
 static VALUES: LazyLock<String> = LazyLock::new(|| {
     fs::read_to_string(concat!(env!("CARGO_MANIFEST_DIR"), "/../tests/values.tsv")).unwrap()
@@ -38,6 +36,14 @@ pub fn alphabets() -> HashMap<&'static str, Alphabet> {
     let alphabet = |letters| Alphabet::try_from(&bytes(letters)[..]).unwrap();
     let rows = rows("alphabet").into_iter();
     rows.map(|row| (row[0], alphabet(row[1]))).collect()
+}
+
+/// Hands each row of a kind to a test: the alphabet that its first field names, and the other fields.
+pub fn each(kind: &str, test: impl Fn(&Alphabet, &[&str])) {
+    let alphabets = alphabets();
+    for row in rows(kind) {
+        test(&alphabets[row[0]], &row[1..]);
+    }
 }
 
 /// The error that the last fields of a row name. None if this machine has no such index.

@@ -43,7 +43,11 @@ pub(crate) fn decode_inlined_over(
     if input.len() > 10 {
         return decode_outlined_over(tables, input, work);
     }
-    decode_over(tables, input, work)
+    if input.is_empty() {
+        return Err(DecodeError::EmptyInput);
+    }
+    let zeros = count_zeros(tables, input);
+    decode_few(tables, input, zeros, work)
 }
 
 // Like `decode_over`, but never inlined.
@@ -73,10 +77,29 @@ pub(crate) fn decode_after_zeros(
     if after_zeros.len() > MAX_DIGITS {
         return Err(DecodeError::ArithmeticOverflow);
     }
-    if after_zeros.len() <= 10 {
-        return Ok(read_up_to_10(tables, after_zeros, zeros, work)? as u128);
+    if after_zeros.len() > 10 {
+        return read_long(tables, after_zeros, zeros, work);
     }
-    read_long(tables, after_zeros, zeros, work)
+    decode_few(tables, input, zeros, work)
+}
+
+// Like `decode_after_zeros`, for at most ten bytes after the zeros.
+#[inline(always)]
+fn decode_few(
+    tables: &Tables,
+    input: &[u8],
+    zeros: usize,
+    work: &mut Work,
+) -> Result<u128, DecodeError>
+    requires tables { AreTables tables.now }
+    requires some { 0 < length input.now }
+    requires few { length input.now ≤ zeros + 10 }
+    requires within { zeros ≤ length input.now }
+    requires zeros { zeros ≡ leading_zeros tables.now.letters input.now }
+    ensures { DecodesCounted tables.now.letters input.now work.old work.new result }
+{
+    let (_, after_zeros) = input.split_at(zeros);
+    Ok(read_up_to_10(tables, after_zeros, zeros, work)? as u128)
 }
 
 // Returns how many zero letters a text begins with.

@@ -28,7 +28,11 @@ pub(crate) fn decode_inlined_over(tables: &Tables, input: &[u8]) -> Result<u128,
     if input.len() > 10 {
         return decode_outlined_over(tables, input);
     }
-    decode_over(tables, input)
+    if input.is_empty() {
+        return Err(DecodeError::EmptyInput);
+    }
+    let zeros = count_zeros(tables, input);
+    decode_few(tables, input, zeros)
 }
 
 // Like `decode_over`, but never inlined.
@@ -50,10 +54,19 @@ pub(crate) fn decode_after_zeros(
     if after_zeros.len() > MAX_DIGITS {
         return Err(DecodeError::ArithmeticOverflow);
     }
-    if after_zeros.len() <= 10 {
-        return Ok(read_up_to_10(tables, after_zeros, zeros)? as u128);
+    if after_zeros.len() > 10 {
+        return read_long(tables, after_zeros, zeros);
     }
-    read_long(tables, after_zeros, zeros)
+    decode_few(tables, input, zeros)
+}
+
+// Like `decode_after_zeros`, for at most ten bytes after the zeros.
+#[inline(always)]
+fn decode_few(tables: &Tables, input: &[u8], zeros: usize) -> Result<u128, DecodeError> {
+    requires!(!input.is_empty());
+    requires!(zeros <= input.len());
+    let (_, after_zeros) = input.split_at(zeros);
+    Ok(read_up_to_10(tables, after_zeros, zeros)? as u128)
 }
 
 // Returns how many zero letters a text begins with.

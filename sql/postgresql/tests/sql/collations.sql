@@ -7,6 +7,8 @@ CREATE DATABASE contrib_regression_language OWNER regress_base62 TEMPLATE templa
     LOCALE_PROVIDER icu ICU_LOCALE 'en-US' LOCALE 'C';
 \c contrib_regression_language
 SET SESSION AUTHORIZATION regress_base62;
+-- The script runs as a superuser, so it must not call a function of the user.
+CREATE FUNCTION format(text, text, text, text) RETURNS text LANGUAGE plpgsql AS $$ BEGIN RAISE 'called'; END $$;
 CREATE EXTENSION base62;
 SELECT 'a' < 'B' language, 'a' < 'B' COLLATE "C" bytes;
 

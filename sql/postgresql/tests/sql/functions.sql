@@ -68,17 +68,9 @@ WITH taken AS MATERIALIZED (SELECT base62_encode(n, CASE n % 2 WHEN 0 THEN :own 
         FROM generate_series(1, 10000) n)
     SELECT count(t), count(bytes), max(bytes) - min(bytes) < 2000000 FROM taken;
 
-\echo Two results of each function in one row, if they are the same, or not those of two rows
-CREATE TABLE pair AS SELECT i, i width, 1337 + i number, lpad(to_hex(i), 32, '0')::uuid id, '111111' || i encoded, i::text prefix
-    FROM generate_series(1, 2) i;
-SELECT format('SELECT %1$L FROM pair one, pair other WHERE one.i < other.i
-        AND (%1$s = %2$s OR ARRAY[%1$s, %2$s] <> ARRAY[%1$s] || ARRAY[%2$s])', call, replace(call, 'one.', 'other.'))
-    FROM functions, LATERAL (SELECT proname || '(' || string_agg(CASE WHEN given = 'width' AND i > 1 THEN '7'
-            WHEN given = 'alphabet' THEN quote_literal(:own) WHEN given = 'encoded' AND proname ~ '_key$'
-            THEN 'lpad(one.encoded, 22, ''0'')' ELSE 'one.' || given END, ', ' ORDER BY i) || ')'
-        FROM unnest(proargnames) WITH ORDINALITY names (given, i)) calls (call)
-    WHERE prorettype <> 'boolean'::regtype AND pronargs > 0
-\gexec
+\echo Two results of each type in one row
+SELECT base62_encode(n), base62_encode(n + 1), base62_encode_key(n), base62_encode_key(n + 1), base62_decode_uuid('1' || n),
+    base62_decode_uuid('2' || n), base62_decode_numeric('1' || n), base62_decode_numeric('2' || n) FROM generate_series(1, 1) n;
 
 \echo In a schema of its own
 CREATE SCHEMA tools;

@@ -40,11 +40,8 @@ SELECT format('PREPARE search_%1$s (text) AS %2$s; CREATE FUNCTION search_%1$s(t
     FROM regexp_matches(:'page', '\nWITH given .*?;', 'g') WITH ORDINALITY query (q, i)
 \gexec
 EXPLAIN (COSTS off) EXECUTE search_1 ('2a-');
-EXECUTE search_1 ('2a-');
 EXPLAIN (COSTS off) EXECUTE search_2 ('2a-');
-EXECUTE search_2 ('2a-');
 EXPLAIN (COSTS off) EXECUTE search_3 ('2a-');
-EXECUTE search_3 ('2a-');
 RESET plan_cache_mode;
 SELECT p FROM unnest(ARRAY['', '0', '00', '2', 'A', 'Az', 'z', '-', 'L-', '2a-', 'é', repeat('0', 23), repeat('z', 22)]) p
     WHERE ARRAY(SELECT s FROM search_1(p) s ORDER BY s) <> ARRAY(SELECT key::text FROM item WHERE starts_with(key, p) ORDER BY key)

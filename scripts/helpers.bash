@@ -1,5 +1,7 @@
-# What .ci/setup and the checks share. Each sources it at the top, with set -Eeuo pipefail.
+# What .ci/setup and the checks share. Each sources it at the top, with set -Eeuo pipefail, and then runs at the top of the
+# repository.
 
+cd "$(dirname "${BASH_SOURCE[0]}")/.."
 export LC_ALL=C
 work=$(mktemp -d)
 trap 'rm -rf "$work"' EXIT

@@ -122,16 +122,12 @@ LISTS = [
     (ghost("base62_alphabet own = *t;", "requires \\valid_read(t); assigns \\nothing;", head="void mutant(base62_alphabet *t)"), READ),
 ]
 
-# What the list allows.
-ACCEPTED = [
-    "if (base62_encode(base62_from_u64(1), (char *)to, i) == 0) i = 1;",
-    "const bool ok = length > 1 && base62_encode(base62_from_u64(1), (char *)to, i) == 2;\n    if (!ok) return 0;",
-    "i = base62_encode(base62_from_u64(1), (char *)to, i);",
-    "status = length > 1 ? BASE62_OK : status; if (status == BASE62_OK) i = (size_t)'a' * 1u + 0xffffffffff + 5ull;",
-]
-
-# What is not on the list of the C that base62.c may be, in a function.
+# What is on the list of the C that base62.c may be, and what is not, in a function.
 STATEMENTS = [
+    *((text, None) for text in (
+        "/**/", "i = base62_encode(base62_from_u64(1), (char *)to, i);", "if (base62_encode(base62_from_u64(1), (char *)to, i) == 0) i = 1;",
+        "const bool ok = length > 1 && base62_encode(base62_from_u64(1), (char *)to, i) == 2;\n    if (!ok) return 0;",
+        "status = length > 1 ? BASE62_OK : status; if (status == BASE62_OK) i = (size_t)'a' * 1u + 0xffffffffff + 5ull;")),
     # What compilers read otherwise, and Frama-C alone.
     *((line, LINE) for line in (
         "#ifndef BASE62_BUILD\n    i++;\n#endif", "#include \"min.inc\"", "/* */ #undef B62_MAY_ALIAS /* */", "#define next(n) (n) + 1",
@@ -278,16 +274,12 @@ def cases(work):
         file = wp.prepared(at, text)
         return wp.warnings(wp.proved(file, "mutant"), wp.checked(file))
 
-    yield "nothing", None, lambda at: of_code(at, source)
-    for text in ACCEPTED:
-        yield text, None, lambda at, text=once(source, "/**/", text): of_code(at, text)
-    for text, by in STATEMENTS:
-        yield text, by, lambda at, text=once(source, "/**/", text): of_code(at, text)
-    for old, new, by in SOURCES:
-        yield new, by, lambda at, text=once(source, old, new): of_code(at, text)
+    changes = [("/**/", text, by) for text, by in STATEMENTS] + SOURCES
     for text, first, call, by in WRITES:
         new = HERE.replace("static size_t here", f"{text}\n\nstatic size_t here").replace("/**/", f"{first}i = part[0] + {call};")
-        yield new, by, lambda at, text=once(source, HERE, new): of_code(at, text)
+        changes.append((HERE, new, by))
+    for old, new, by in changes:
+        yield new, by, lambda at, text=once(source, old, new): of_code(at, text)
     for text, by in LISTS:
         yield text, by, lambda at, text=text: of_lists(at, text)
     shared = once(whole, "separated(to + (0 .. length - 1)", "separated(to + (0 .. 0)")

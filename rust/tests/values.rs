@@ -213,12 +213,10 @@ fn ranges() {
             ["none"] => Ok(None),
             _ => Err(decode_error(&row[2..]).unwrap()),
         };
-        assert_eq!(prefix_range_with(alphabet, &prefix, width), expected);
-        if *alphabet == Alphabet::standard() {
-            assert_eq!(prefix_range(&prefix, width), expected);
-            if width == 22 {
-                assert_eq!(key_range(&prefix), expected);
-            }
+        calls!(alphabet: prefix_range, prefix_range_with(&prefix, width),
+            result => assert_eq!(result, expected));
+        if width == 22 && *alphabet == Alphabet::standard() {
+            assert_eq!(key_range(&prefix), expected);
         }
     });
 }

@@ -103,10 +103,8 @@ fn displays_and_strings() {
         #[cfg(feature = "alloc")]
         {
             let check = |encoded: String| {
-                assert_eq!(
-                    (encoded.as_bytes(), encoded.capacity()),
-                    (&text[..], text.len())
-                );
+                assert_eq!(encoded.as_bytes(), text);
+                assert_eq!(encoded.capacity(), text.len());
             };
             calls!(alphabet: encode encode_alternative, encode_with(num), result => check(result));
             let uuid = num.to_be_bytes();
@@ -273,10 +271,8 @@ fn alphabet() {
     for row in rows("alphabet") {
         let letters: [u8; 62] = bytes(row[1]).try_into().unwrap();
         let alphabet = Alphabet::new(letters).unwrap();
-        assert_eq!(
-            (alphabet.characters(), alphabet.as_ref()),
-            (&letters, &letters[..])
-        );
+        assert_eq!(alphabet.characters(), &letters);
+        assert_eq!(alphabet.as_ref(), letters);
         assert_eq!(Alphabet::try_from(letters), Ok(alphabet));
         assert_eq!(Alphabet::try_from(&letters), Ok(alphabet));
         assert_eq!(hasher.hash_one(alphabet), hasher.hash_one(letters));
@@ -289,10 +285,8 @@ fn alphabet() {
     }
     // Blanks at the ends are characters too.
     let letters = " 123456789ABCDEFGHIJKLMNOPQRSTUVWXYZabcdefghijklmnopqrstuvwxy\n";
-    assert_eq!(
-        letters.parse::<Alphabet>().unwrap().as_ref(),
-        letters.as_bytes()
-    );
+    let alphabet: Alphabet = letters.parse().unwrap();
+    assert_eq!(alphabet.as_ref(), letters.as_bytes());
     let alphabets = alphabets();
     assert_eq!(alphabets["standard"], Alphabet::standard());
     assert_eq!(alphabets["standard"], Alphabet::default());

@@ -1,4 +1,4 @@
-"""Tests of what COLUMNS.md says of other software, with ids that are equal as floats."""
+"""Tests of what COLUMNS.md says of other software, with ids that are equal as floats, and of the examples for columns."""
 
 import doctest
 import importlib
@@ -254,4 +254,6 @@ class Readers(ColumnsTestCase):
 
 def load_tests(loader: unittest.TestLoader, tests: unittest.TestSuite, pattern: object) -> unittest.TestSuite:
     tests.addTest(doctest.DocTestCase(page("COLUMNS.md")))
+    # An example can be pasted alone: it has its imports.
+    tests.addTests(doctest.DocTestSuite(columns, globs={}))
     return tests

@@ -57,12 +57,6 @@ def forms_of_alphabet(name: str) -> list[str | bytes]:
     return [ALPHABETS[name], letters, *([letters.decode()] if name in OF_ASCII else [])]
 
 
-def numbers_of_bounds(prefix: str | bytes) -> tuple[int, int] | None:
-    """The result of key_range, by key_bounds."""
-    bounds = base62.key_bounds(prefix)
-    return bounds and (base62.decode_key(bounds[0]), base62.decode_key(bounds[1]))
-
-
 class Values(RaisesTestCase):
     def raises(self, expected: list[str], call: Call, *given: object) -> None:
         """A call raises exactly this error, with the message of its row if there is one, and perhaps a hint."""
@@ -144,7 +138,8 @@ class Values(RaisesTestCase):
             for prefix in forms_of_text(escaped):
                 calls: list[Call] = [lambda prefix: base62.prefix_range(prefix, int(width), ALPHABETS[name])]
                 if (name, width) == ("standard", "22"):
-                    calls += [base62.key_range, numbers_of_bounds]
+                    calls.append(base62.key_range)
+                    calls.append(lambda prefix: tuple(map(base62.decode_key, base62.key_bounds(prefix) or ())) or None)
                 for call in calls:
                     if kind == "byte":
                         self.raises([kind, *expected], call, prefix)

@@ -1,5 +1,7 @@
-# What .ci/setup and the checks share. Each sources it at the top, with set -Eeuo pipefail.
+# What .ci/setup and the checks share. Each sources it at the top, with set -Eeuo pipefail, and then runs at the top of the
+# repository.
 
+cd "$(dirname "${BASH_SOURCE[0]}")/.."
 export LC_ALL=C
 work=$(mktemp -d)
 trap 'rm -rf "$work"' EXIT
@@ -204,6 +206,17 @@ quietly() {
         exit 1
     }
     grep ': warning: ' "$work/said" >&2 || true
+}
+
+# COMMAND.. Fails unless the command does. $work/said has what it prints.
+fails() {
+    ! ("$@") >"$work/said" 2>&1 || { echo "it does not fail: $*" >&2 && exit 1; }
+}
+
+# PATTERN COMMAND.. The same for a command that has to print the pattern.
+fails_with() {
+    fails "${@:2}"
+    grep -q -- "$1" "$work/said" || { echo "it does not print $1: ${*:2}" >&2 && exit 1; }
 }
 
 # COMMAND.. Runs tests, one of which has to pass. The runners end well if they find none: unittest, doctest -v, Node's,

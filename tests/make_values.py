@@ -116,13 +116,6 @@ def decoded(letters: bytes, text: bytes) -> Result:
     return "number", value(letters, remaining)
 
 
-def decoded_canonical(letters: bytes, text: bytes) -> Result:
-    """The same, where a leading zero is a fault."""
-    result = decoded(letters, text)
-    has_leading_zero = len(text) > 1 and text.startswith(letters[:1])
-    return ("zero",) if result[0] == "number" and has_leading_zero else result
-
-
 def decoded_fixed(letters: bytes, width: int, text: bytes) -> Result:
     """The same, where another length than the width is a fault, before all others."""
     return decoded(letters, text) if len(text) == width else ("length",)
@@ -365,11 +358,11 @@ def check_model() -> None:
     for number, standard, alternative in KNOWN_NUMBERS:
         for letters, text in ((STANDARD, standard), (ALTERNATIVE, alternative)):
             assert text_of(letters, number) == text, text
-            assert decoded(letters, text) == decoded_canonical(letters, text) == ("number", number), text
+            assert decoded(letters, text) == ("number", number), text
     for text, number in KNOWN_ZEROS:
-        assert decoded(STANDARD, text) == ("number", number) and decoded_canonical(STANDARD, text) == ("zero",), text
+        assert decoded(STANDARD, text) == ("number", number), text
     for text, fault in KNOWN_REFUSED:
-        assert decoded(STANDARD, text) == decoded_canonical(STANDARD, text) == fault, text
+        assert decoded(STANDARD, text) == fault, text
     for number, width, filled in KNOWN_FIXED:
         assert fixed_text(STANDARD, number, width) == filled, (number, width)
     for width, text, result in KNOWN_EXACT:

@@ -55,9 +55,8 @@ def exported() -> dict[str, set[str]]:
     rust = text("rust/src/lib.rs", "rust/src/generated/mod.rs")
     rust = re.findall(r"\w+", "".join(re.findall(r"\npub (?:use (?:\w+::)+)?([^;]*;)", rust)))
     c = re.findall(r"\b(base62_\w+)\(", re.sub(r"(?s)/\*.*?\*/", "", text("c/base62.h")))
-    python = re.findall(
-        r"(?m)^(?:def |class |(?=\w+ = ))([A-Za-z]\w*)", text("python/base62/_base62.pyi", "python/base62/__init__.py")
-    )
+    python = text("python/base62/_base62.pyi", "python/base62/__init__.py")
+    python = re.findall(r"(?m)^(?:def |class |(?=\w+ = ))([A-Za-z]\w*)", python)
     javascript = " ".join(re.findall(r"(?m)^export \{(.*)\}", text("js/index.js")))
     return {
         "Rust": {ALPHABETS.sub("", name) for name in rust},

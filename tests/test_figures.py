@@ -44,13 +44,10 @@ def says(characters: str) -> list[str]:
     # What a URL has as it is, a file name and CSV have too.
     is_plain = quote(characters, safe="") == characters
     lengths = ", ".join(str(length(len(characters), 2**bits - 1)) for bits in (32, 64, 128))
-    answers = [[*characters] == sorted(characters), len({*characters.lower()}) == len(characters)]
+    answers = [[*characters] == sorted(characters), len({*characters.lower()}) == len(characters), is_plain]
+    cells = [lengths, *("yes" if answer else "no" for answer in answers)]
     # What begins with a hyphen is an option of a command.
-    return [
-        lengths,
-        *("yes" if answer else "no" for answer in answers),
-        "may begin with `-`" if "-" in characters else "yes" if is_plain else "no",
-    ]
+    return [*cells[:-1], "may begin with `-`"] if "-" in characters else cells
 
 
 def main() -> None:

@@ -145,8 +145,7 @@ ATTRIBUTE = re.compile(rf"# \[ (?:inline(?: \( always \))?|must_use|track_caller
                        rf"should_panic \( expected = {HIDDEN} \)|derive \( [A-Z]\w+(?: , [A-Z]\w+)* \)|cfg \( "
                        rf"(?:test|debug_assertions|{FEATURE}|all \( {FEATURE} , {FEATURE} \)) \)) \] ")
 # the macros, and the words before a ! that is no macro's;
-MACROS = set("assert assert_eq assert_ne concat debug_assert env eprint eprintln format format_args matches panic "
-             "print println unreachable vec write writeln if in match return while".split())
+MACROS = set("assert assert_eq debug_assert write if in match return while".split())
 # what they name of the crate, since a function with `requires!` is safe to call, and not to misuse;
 OF_CRATE = r"pub \( crate \) |crate :: (?:text :: Text|Alphabet|\{ Alphabet , AlphabetError \}) "
 # and what contract.rs alone has: all `unsafe`, the functions that this calls, and the macros of the generated files.

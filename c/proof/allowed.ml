@@ -273,17 +273,17 @@ let contract kf =
 
 (* -------------------- The walk -------------------- *)
 
+(* The types of the fields of a struct. *)
+let fields typ = match Cil.unrollType typ with
+  | TComp (c, _) -> List.map (fun f -> f.ftype) (Option.value c.cfields ~default:[]) | _ -> []
+let pointed typ = Cil.typeOf_pointed (Cil.unrollType typ)
+
 (* WP 25 has a false axiom for an array that is read whole, as a part of a struct too. *)
-let rec has_array typ = match Cil.unrollType typ with
-  | TArray _ -> true
-  | TComp (c, _) -> List.exists (fun f -> has_array f.ftype) (Option.value c.cfields ~default:[])
-  | _ -> false
+let rec has_array typ = Cil.isArrayType typ || List.exists has_array (fields typ)
 
 (* It would let a call write, although no parameter says so. *)
-let hides_pointer typ = match Cil.unrollType typ with
-  | TPtr (t, _) -> Cil.isPointerType t
-  | TComp (c, _) -> List.exists (fun f -> Cil.isPointerType f.ftype) (Option.value c.cfields ~default:[])
-  | _ -> false
+let hides_pointer typ =
+  Cil.isPointerType typ && Cil.isPointerType (pointed typ) || List.exists Cil.isPointerType (fields typ)
 
 let is_of_kind kind typ = match Cil.unrollType typ with TInt (k, _) -> k = kind | _ -> false
 let is_through_a_number to_ from = Cil.isPointerType to_ <> Cil.isPointerType from && not (Cil.isVoidType to_)
@@ -294,13 +294,12 @@ let through_a_number = "a pointer from a number, or a number from a pointer"
 let rec is_of_bytes typ = match Cil.unrollType typ with
   | TInt ((IChar | IUChar), _) -> true
   | TArray (t, Some _, _) -> is_of_bytes t
-  | TComp (c, _) -> List.for_all (fun f -> is_of_bytes f.ftype) (Option.value c.cfields ~default:[])
+  | TComp _ -> List.for_all is_of_bytes (fields typ)
   | _ -> false
 let is_byte typ = Cil.isArithmeticType typ && is_of_bytes typ
 let name_of typ = match Cil.unrollType typ with TComp (c, _) -> c.corig_name | _ -> ""
 let is_constant_type typ = Cil.typeHasQualifier "const" typ
 let is_pointer e = Cil.isPointerType (Cil.typeOf e)
-let pointed typ = Cil.typeOf_pointed (Cil.unrollType typ)
 let is_same a b = Cil_datatype.Typ.equal (Cil.typeDeepDropAllAttributes a) (Cil.typeDeepDropAllAttributes b)
 
 (* The size and the sign of an enum are up to the compiler, and so is what an operator or a cast makes of it. Of each variable
@@ -407,9 +406,7 @@ class walk = object (self)
 
   (* WP counts a struct in fields, and compilers in bytes, of which some are none of a field. *)
   method! vtype t =
-    let holds_numbers t = match Cil.unrollType t with
-      | TComp (c, _) -> List.for_all (fun f -> Cil.isArithmeticType f.ftype) (Option.value c.cfields ~default:[])
-      | t -> Cil.isArithmeticType t in
+    let holds_numbers t = List.for_all Cil.isArithmeticType (if fields t = [] then [ t ] else fields t) in
     let is_wrong = match t with TArray (t, size, _) -> size = None || not (holds_numbers t) | _ -> false in
     self#reject_if is_wrong (Cil.CurrentLoc.get ()) "an array without a length, or of structs that hold more than numbers";
     allow (not (hides_pointer t)) (Cil.CurrentLoc.get ()) "a pointer in a struct, or to a pointer"; Cil.DoChildren
@@ -503,8 +500,8 @@ let rec endless names =
 
 (* A function writes only by a pointer: no variable of the files changes. *)
 let writes name = match Globals.Functions.find_by_name name with
-  | kf -> List.exists (fun v -> match Cil.unrollType v.vtype with
-      | TPtr (typ, _) -> not (is_constant_type typ) | _ -> false) (Kernel_function.get_formals kf)
+  | kf -> List.exists (fun v -> Cil.isPointerType v.vtype && not (is_constant_type (pointed v.vtype)))
+      (Kernel_function.get_formals kf)
   | exception Not_found -> true
 
 (* Leaves the code that WP reads, without ghosts. *)

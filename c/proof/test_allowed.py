@@ -15,15 +15,10 @@ import wp
 FAILED = "[Failed] Goal"
 
 # Parts of what prove prints.
-ENDS, LOOP, ADMIT, READ = "nothing shows that it ends", "a loop without a variant", ": admit", "is read whole"
-KIND, CLAUSE = "annotation of another kind", "a clause of another kind"
-UNPROVED, FORM = "does not prove the axiom", "an axiom of another form"
+ADMIT, READ, KIND, CLAUSE = ": admit", "is read whole", "annotation of another kind", "a clause of another kind"
 CODE, BODY, WARNING, NO_CONTRACT = "the lists change the code", "without a body", "arning", "no contract, or none"
-FALSE, NOT_TRIED = "an axiom of WP that is not on the list", "WP tries no goal"
-NUMBER, CHAR, APART = "a pointer from a number", "a plain char", "Memory model hypotheses"
-CHARACTER, LINE, TOKEN, WORD = "list of characters", "are not reviewed", "list of tokens", "list of words"
-EXPRESSION, STATEMENT = "list: the expression", "list: a statement"
-VARIABLE, UNTYPED, CALL = "is not initialized", "list: an expression", "a call that may write"
+NOT_TRIED, NUMBER, CHAR, LINE = "WP tries no goal", "a pointer from a number", "a plain char", "are not reviewed"
+EXPRESSION, STATEMENT, CALL = "list: the expression", "list: a statement", "a call that may write"
 POINTER, ARRAY = "list: a pointer in a struct, or to a pointer", "more than numbers"
 
 # A function, which stands behind those of base62.c, and its contract.
@@ -55,7 +50,7 @@ def ghost(body, contract="assigns \\nothing; ensures \\false;", before="", head=
 # Lists, and what rejects each.
 LISTS = [
     # A definition that has no sense.
-    *((logic(text), ENDS) for text in (
+    *((logic(text), "nothing shows that it ends") for text in (
         "predicate p(integer n) = !p(n);", "logic integer f = f + 1;", "logic integer f(integer n) = 1 + f(n - 1);",
         "logic integer f(integer n) = f(n - 1) <= 0 ? 0 : 1;", "logic integer f(integer n) = n <= 0 ? f(n - 1) : 0;",
         "logic integer f(integer n) = n <= 0 ? 0 : f(n - 1) - f(n + 1);",
@@ -70,13 +65,13 @@ LISTS = [
     (logic("axiomatic A { logic integer f(integer n); }"), BODY),
     (logic("inductive p(integer n) { case no: \\forall integer n; p(n) ==> p(n + 1); }"), BODY),
     # An axiom.
-    *((logic(text), FORM) for text in (
+    *((logic(text), "an axiom of another form") for text in (
         "axiomatic A { axiom no: \\false; }", "admit lemma no: \\false;",
         "axiomatic A { axiom no: \\forall integer x; 0 <= x ==> (uint64_t)x == x % 0x10000000000000000; }",
         f"axiomatic A {{ axiom no: \\forall integer x; 0 <= x < 9 ==> x + 0x1{48 * '0'} == x; }}",
         "axiomatic A { axiom no: \\forall integer x; 1 <= x < 9 ==> x << 192 == 0; }",
         "axiomatic A { axiom no: \\forall integer x; 0 <= x < 1 ==> 5 / x == -1; }")),
-    (logic("axiomatic A { axiom no: \\forall integer x; 0 <= x < 256 ==> (x & 127) == x; }"), UNPROVED),
+    (logic("axiomatic A { axiom no: \\forall integer x; 0 <= x < 256 ==> (x & 127) == x; }"), "does not prove the axiom"),
     # What is admitted.
     (ghost("int i = 0; /@ ACSL_JOIN(ad, mit) no: \\false; @/ i = 1;", before="#define ACSL_JOIN(a, b) a##b"), ADMIT),
     (ghost("", "assigns \\nothing; admit ensures no: \\false;"), ADMIT),
@@ -84,7 +79,7 @@ LISTS = [
     (f"{STEP}assert no_wp: \\false;", NOT_TRIED), (ghost("/@ loop variant no_wp: 0; @/ while (1) {}"), NOT_TRIED),
     (ghost("int i = 0; /@ loop assigns no_wp: i; loop variant 9 - i; @/ while (i < 9) i++;"), NOT_TRIED),
     # A function that does not end.
-    (ghost("for (;;) {}"), LOOP), (ghost("here: goto here;"), STATEMENT),
+    (ghost("for (;;) {}"), "a loop without a variant"), (ghost("here: goto here;"), STATEMENT),
     (ghost("other();", before="/*@ ghost /@ assigns \\nothing; @/ void mutant(void);\n"
            "/@ assigns \\nothing; @/ void other(void) { mutant(); } */"), "it calls itself"),
     (ghost("(*there)();", before="/*@ ghost void (*there)(void); */"), "function pointer"),
@@ -122,32 +117,28 @@ LISTS = [
     (ghost("base62_alphabet own = *t;", "requires \\valid_read(t); assigns \\nothing;", head="void mutant(base62_alphabet *t)"), READ),
 ]
 
-# What the list allows.
-ACCEPTED = [
-    "if (base62_encode(base62_from_u64(1), (char *)to, i) == 0) i = 1;",
-    "const bool ok = length > 1 && base62_encode(base62_from_u64(1), (char *)to, i) == 2;\n    if (!ok) return 0;",
-    "i = base62_encode(base62_from_u64(1), (char *)to, i);",
-    "status = length > 1 ? BASE62_OK : status; if (status == BASE62_OK) i = (size_t)'a' * 1u + 0xffffffffff + 5ull;",
-]
-
-# What is not on the list of the C that base62.c may be, in a function.
+# What is on the list of the C that base62.c may be, and what is not, in a function.
 STATEMENTS = [
+    *((text, None) for text in (
+        "/**/", "i = base62_encode(base62_from_u64(1), (char *)to, i);", "if (base62_encode(base62_from_u64(1), (char *)to, i) == 0) i = 1;",
+        "const bool ok = length > 1 && base62_encode(base62_from_u64(1), (char *)to, i) == 2;\n    if (!ok) return 0;",
+        "status = length > 1 ? BASE62_OK : status; if (status == BASE62_OK) i = (size_t)'a' * 1u + 0xffffffffff + 5ull;")),
     # What compilers read otherwise, and Frama-C alone.
     *((line, LINE) for line in (
         "#ifndef BASE62_BUILD\n    i++;\n#endif", "#include \"min.inc\"", "/* */ #undef B62_MAY_ALIAS /* */", "#define next(n) (n) + 1",
         "const uint8_t own[] = \"/*\";\n#if SIZE_MAX > 0xffffffff\n    i = own[0];\n#endif\n    copy_bytes(to, \"*/\", 2);",
         "/* \" */\n#if '0' == 48\n    i++;\n#endif /* \" */")),
-    *((line, CHARACTER) for line in (
+    *((line, "list of characters") for line in (
         "\t#undef B62_POWER_2", "\v#undef B62_POWER_2", "i = 1; //\ri = 2;", "le\\\nngth = 1;", "// \\ \n    i = 1;",
         "?\x3f=undef B62_POWER_2", "i = '\xe9';")),
     # What is another token with another compiler or language, or has another value or type.
-    *((text, TOKEN) for text in (
+    *((text, "list of tokens") for text in (
         "%:undef B62_POWER_2", "to<:0:> = 1;", "<% i = 1; %>", "i = 8 //* */ 2\n        ;", "//@ ghost i = 1;", "/*@ assert \\true; */",
         "if (__BYTE_ORDER__ == 4321) i = 1;", "#define B62_ORDER __BYTE_ORDER__", "_Pragma(\"GCC optimize (3)\")", "i = _Generic(i, size_t: 8);",
         "i = 0LU - 1;", "i = 1l;", "i = 3000000000;", "i = 0b11;", "i = 1'000;", "i = (size_t)1.5;", "i = (size_t).5;", "i = (size_t)1e3;",
         "i = L'a';", "i = '\\xff';", "i = 'ab';", "static const uint8_t bytes[2] = \"\\xe9\";", "i = sizeof(L\"a\");")),
     # What a machine or a compiler defines. unsigned is no word without char.
-    *((text, WORD) for text in (
+    *((text, "list of words") for text in (
         "i = length + (UINT_FAST32_MAX > 0xffffffff);", "if (CHAR_MIN < 0) i = 1;", "i = linux;", "#define B62_MOST INT_MAX\n    i = B62_MOST;",
         "const unsigned long n = 1; i += n;", "const uint_fast32_t n = 1; i += n;", "int n = 0; i = (size_t)n;", "const unsigned n = 1; i += n;",
         "const float n = 1; i = (size_t)n;", "const union { uint8_t a; } n = {1};", "volatile uint8_t n = 1;", "register size_t n = 1;",
@@ -160,10 +151,10 @@ STATEMENTS = [
     ("if ((length > 1 ? status : 3) - 5 < 0) i = 1;", EXPRESSION), ("const char c = 'a'; if (c < 0) i = 1;", CHAR),
     ("i = (size_t)(5 % (1 - part[0]));", EXPRESSION),
     # What is read and may not be set.
-    ("uint32_t n;", VARIABLE), ("i = to[0];", EXPRESSION), ("copy_bytes(to, to + 5, 5);", EXPRESSION),
+    ("uint32_t n;", "is not initialized"), ("i = to[0];", EXPRESSION), ("copy_bytes(to, to + 5, 5);", EXPRESSION),
     ("static uint8_t kept = 0; i = kept;", "a static variable"),
     # Two effects, or an effect and a read.
-    *((text, UNTYPED) for text in (
+    *((text, "list: an expression") for text in (
         "i = length++ + length;", "to[i++] = (uint8_t)i;", "i = (length = 1) + length;", "i = (i++, 1);", "if (to[i++] == 1) i = 2;")),
     ("i = u64_ilog2(base62_encode(base62_from_u64(1), (char *)to, i));", CALL),
     ("if (base62_encode(base62_from_u64(1), (char *)to, i) == part[0]) i = 1;", CALL),
@@ -278,16 +269,12 @@ def cases(work):
         file = wp.prepared(at, text)
         return wp.warnings(wp.proved(file, "mutant"), wp.checked(file))
 
-    yield "nothing", None, lambda at: of_code(at, source)
-    for text in ACCEPTED:
-        yield text, None, lambda at, text=once(source, "/**/", text): of_code(at, text)
-    for text, by in STATEMENTS:
-        yield text, by, lambda at, text=once(source, "/**/", text): of_code(at, text)
-    for old, new, by in SOURCES:
-        yield new, by, lambda at, text=once(source, old, new): of_code(at, text)
+    changes = [("/**/", text, by) for text, by in STATEMENTS] + SOURCES
     for text, first, call, by in WRITES:
         new = HERE.replace("static size_t here", f"{text}\n\nstatic size_t here").replace("/**/", f"{first}i = part[0] + {call};")
-        yield new, by, lambda at, text=once(source, HERE, new): of_code(at, text)
+        changes.append((HERE, new, by))
+    for old, new, by in changes:
+        yield new, by, lambda at, text=once(source, old, new): of_code(at, text)
     for text, by in LISTS:
         yield text, by, lambda at, text=text: of_lists(at, text)
     shared = once(whole, "separated(to + (0 .. length - 1)", "separated(to + (0 .. 0)")
@@ -301,8 +288,8 @@ def cases(work):
         yield name, FAILED, lambda at, name=name, text=once(whole, old, new): of_goals(at, text, name)
     too_large = once(whole, "/**/", "i = (size_t)(70000 * 70000);")
     yield "70000", "guaranteed RTE", lambda at: of_goals(at, too_large, "here")
-    yield PROGRAM, FALSE, lambda at: of_program(at, PROGRAM)
-    yield OTHER, APART, lambda at: of_program(at, OTHER)
+    yield PROGRAM, "an axiom of WP that is not on the list", lambda at: of_program(at, PROGRAM)
+    yield OTHER, "Memory model hypotheses", lambda at: of_program(at, OTHER)
     yield NEVER, "mutant_wp_smoke", lambda at: wp.contradictions(wp.prepared(at, NEVER))
 
 

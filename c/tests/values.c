@@ -12,9 +12,6 @@
 
 enum { LINE = 1024, MOST_FIELDS = 8, MOST_ALPHABETS = 8 };
 
-/* The size in this major version, which callers of the shared library allocate. */
-typedef char alphabet_has_318_bytes[sizeof(base62_alphabet) == 318 ? 1 : -1];
-
 /* What the file calls the statuses, by their numbers in this major version, which are compiled into callers too. */
 static const char *const statuses[] = {"",         "narrow", "empty",  "byte", "overflow", "none",
                                        "repeated", "zero",   "length", "uuid", "wide"};
@@ -407,12 +404,14 @@ static void check_row(void) {
     for (at_end = 0; at_end < 2; at_end++) kinds[k].check();
 }
 
-/* What has no row: statuses without a text, and the constants of the header. */
+/* What has no row: statuses without a text, the constants of the header, and the size of an alphabet in this major version,
+ * which callers of the shared library allocate. */
 static void check_rest(void) {
     const base62_status none[] = {BASE62_OK, (base62_status)STATUSES, (base62_status)-1};
     for (size_t i = 0; i < sizeof none / sizeof *none; i++)
         expect(base62_error_message(none[i], unwritten.bad, fresh(100), 100) == 0, "the text of no status");
     expect(base62_version_number() == BASE62_VERSION_NUMBER, "the version");
+    expect(sizeof(base62_alphabet) == 318, "the size of an alphabet");
     expect(most_digits == BASE62_MAX_DIGITS, "BASE62_MAX_DIGITS");
     expect(sizeof(size_t) < 8 || longest_message == BASE62_MAX_ERROR_MESSAGE, "BASE62_MAX_ERROR_MESSAGE");
 }

@@ -1,6 +1,5 @@
 """Tests of columns by the functions for one value, with pyarrow and pandas."""
 
-import doctest
 import importlib
 import inspect
 import random
@@ -609,9 +608,3 @@ class Hints(unittest.TestCase):
         self.assertEqual(right, {*FOLLOWED, *PASSED} - {ROUNDED})
         kinds = [kind for kind in vars(columns).values() if isinstance(kind, columns._Kind)]
         self.assertEqual({hint for kind in kinds for _, hint in kind.hints}, FOLLOWED.keys())
-
-
-def load_tests(loader: unittest.TestLoader, tests: unittest.TestSuite, pattern: object) -> unittest.TestSuite:
-    # An example can be pasted alone: it has its imports.
-    tests.addTests(doctest.DocTestSuite(columns, globs={}))
-    return tests

@@ -137,6 +137,10 @@ class Package(unittest.TestCase):
                 with self.assertRaisesRegex(TypeError, call.__name__ + r"\(\)"):
                     call(*["1"] * count, **dict.fromkeys(named, "1"))
 
+    def test_great_number(self) -> None:
+        with contextlib.closing(sqlite3.connect(":memory:")) as db:
+            self.assertRaises(OverflowError, db.execute, "SELECT ?", (base62.decode("AzL8n0Y58m8"),))
+
     def test_private_library(self) -> None:
         """The library's own calls are not seen by other libraries of the process."""
         extension = ctypes.CDLL(_base62.__file__)
@@ -206,12 +210,6 @@ class Modules(unittest.TestCase):
             self.assertIsNone(maker.run_string(other, said))
             maker.destroy(other)
         self.assertEqual(base62.encode(1337), "LZ")
-
-
-class Queries(unittest.TestCase):
-    def test_great_number(self) -> None:
-        with contextlib.closing(sqlite3.connect(":memory:")) as db:
-            self.assertRaises(OverflowError, db.execute, "SELECT ?", (base62.decode("AzL8n0Y58m8"),))
 
 
 def load_tests(loader: unittest.TestLoader, tests: unittest.TestSuite, pattern: object) -> unittest.TestSuite:

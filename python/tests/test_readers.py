@@ -1,4 +1,4 @@
-"""Tests of what COLUMNS.md says of other software, with ids that are equal as floats."""
+"""Tests of what COLUMNS.md says of other software, with ids that are equal as floats, and of the examples for columns."""
 
 import doctest
 import importlib
@@ -128,10 +128,8 @@ class Readers(ColumnsTestCase):
         """No id is rounded, and no row is lost, on the way from a file to codes in pandas and back, also of one column."""
         for of_type, ids in LISTS:
             schema, ints = pa.schema({"id": of_type}), pa.table({"id": pa.array(ids, of_type)})
-            tables = [
-                saved(csv.write_csv, lambda file: by_csv(file, schema), ints),
-                saved(parquet.write_table, parquet.read_table, ints),
-            ]
+            tables = [saved(csv.write_csv, lambda file: by_csv(file, schema), ints)]
+            tables += [saved(parquet.write_table, parquet.read_table, ints)]
             tables += [by_csv(fields("id", ids, more), schema) for more in ("", ",1")] + [by_json(lines("id", ids), schema)]
             for table in tables:
                 self.is_exact(table["id"], ids)
@@ -254,4 +252,6 @@ class Readers(ColumnsTestCase):
 
 def load_tests(loader: unittest.TestLoader, tests: unittest.TestSuite, pattern: object) -> unittest.TestSuite:
     tests.addTest(doctest.DocTestCase(page("COLUMNS.md")))
+    # An example can be pasted alone: it has its imports.
+    tests.addTests(doctest.DocTestSuite(columns, globs={}))
     return tests

@@ -83,12 +83,8 @@ fn variants() {
     let UuidError::InvalidUuid = UuidError::InvalidUuid;
     let AlphabetError::Repeated(_, _) = AlphabetError::Repeated(0, 1);
     let invalid = DecodeError::InvalidBase62Byte(45, 2);
-    let errors = [
-        DecodeError::ArithmeticOverflow,
-        DecodeError::EmptyInput,
-        invalid,
-    ];
-    assert!(errors.is_sorted());
+    assert!(DecodeError::ArithmeticOverflow < DecodeError::EmptyInput);
+    assert!(DecodeError::EmptyInput < invalid);
     assert!(FixedError::WrongLength < DecodeError::ArithmeticOverflow.into());
     assert!(ParseAlphabetError::InvalidLength(63) < ParseAlphabetError::Repeated(0, 1));
     assert_eq!(format!("{invalid:?}"), "InvalidBase62Byte(45, 2)");

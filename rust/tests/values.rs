@@ -103,10 +103,8 @@ fn displays_and_strings() {
         #[cfg(feature = "alloc")]
         {
             let check = |encoded: String| {
-                assert_eq!(
-                    (encoded.as_bytes(), encoded.capacity()),
-                    (&text[..], text.len())
-                );
+                assert_eq!(encoded.as_bytes(), text);
+                assert_eq!(encoded.capacity(), text.len());
             };
             calls!(alphabet: encode encode_alternative, encode_with(num), result => check(result));
             let uuid = num.to_be_bytes();
@@ -213,12 +211,10 @@ fn ranges() {
             ["none"] => Ok(None),
             _ => Err(decode_error(&row[2..]).unwrap()),
         };
-        assert_eq!(prefix_range_with(alphabet, &prefix, width), expected);
-        if *alphabet == Alphabet::standard() {
-            assert_eq!(prefix_range(&prefix, width), expected);
-            if width == 22 {
-                assert_eq!(key_range(&prefix), expected);
-            }
+        calls!(alphabet: prefix_range, prefix_range_with(&prefix, width),
+            result => assert_eq!(result, expected));
+        if width == 22 && *alphabet == Alphabet::standard() {
+            assert_eq!(key_range(&prefix), expected);
         }
     });
 }
@@ -275,10 +271,8 @@ fn alphabet() {
     for row in rows("alphabet") {
         let letters: [u8; 62] = bytes(row[1]).try_into().unwrap();
         let alphabet = Alphabet::new(letters).unwrap();
-        assert_eq!(
-            (alphabet.characters(), alphabet.as_ref()),
-            (&letters, &letters[..])
-        );
+        assert_eq!(alphabet.characters(), &letters);
+        assert_eq!(alphabet.as_ref(), letters);
         assert_eq!(Alphabet::try_from(letters), Ok(alphabet));
         assert_eq!(Alphabet::try_from(&letters), Ok(alphabet));
         assert_eq!(hasher.hash_one(alphabet), hasher.hash_one(letters));
@@ -291,10 +285,8 @@ fn alphabet() {
     }
     // Blanks at the ends are characters too.
     let letters = " 123456789ABCDEFGHIJKLMNOPQRSTUVWXYZabcdefghijklmnopqrstuvwxy\n";
-    assert_eq!(
-        letters.parse::<Alphabet>().unwrap().as_ref(),
-        letters.as_bytes()
-    );
+    let alphabet: Alphabet = letters.parse().unwrap();
+    assert_eq!(alphabet.as_ref(), letters.as_bytes());
     let alphabets = alphabets();
     assert_eq!(alphabets["standard"], Alphabet::standard());
     assert_eq!(alphabets["standard"], Alphabet::default());

@@ -7,7 +7,6 @@ import re
 import subprocess
 import tempfile
 import unittest
-from collections.abc import Iterator
 from pathlib import Path
 from typing import Any
 from uuid import UUID
@@ -68,18 +67,6 @@ def rows(script: str) -> list[dict[str, Any]]:
 def results(script: str) -> list[Any]:
     """The results of queries of one column."""
     return [value for row in rows(script) for value in row.values()]
-
-
-def overloads() -> Iterator[tuple[str, list[tuple[str, list[str]]]]]:
-    """The name of each that has parameters, and two results with arguments. A number is one of any type."""
-    listed = "FROM duckdb_functions() WHERE function_name LIKE 'base62%' AND function_name <> 'base62_version'"
-    for row in rows(f"SELECT function_name AS name, parameter_types AS types {listed};"):
-        calls = FUNCTIONS[row["name"].removeprefix("base62_"), len(row["types"])].items()
-        small = [(result, given) for result, given in calls if not isinstance(given[0], int) or given[0] <= BIGINT]
-        yield row["name"], [
-            (text_of(result), [f"{quoted(value)}::{kind}" for value, kind in zip(given, row["types"])])
-            for result, given in small[:2]
-        ]
 
 
 class Case(unittest.TestCase):
@@ -157,8 +144,13 @@ class Functions(Case):
     def test_rows(self) -> None:
         """Two results of each overload by turns, with null in each place, in the first row of a chunk and in one near its end."""
         queries = []
-        for name, ((one, given), (other, others)) in overloads():
-            values = [f"if(i % 2 = 0, {value}, {second})" for value, second in zip(given, others)]
+        listed = "FROM duckdb_functions() WHERE function_name LIKE 'base62%' AND function_name <> 'base62_version'"
+        for name, types in (row.values() for row in rows(f"SELECT function_name, parameter_types {listed};")):
+            calls = FUNCTIONS[name.removeprefix("base62_"), len(types)].items()
+            # A number is one of any type.
+            small = [(result, given) for result, given in calls if not isinstance(given[0], int) or given[0] <= BIGINT]
+            (one, given), (other, others) = small[:2]
+            values = [f"if(i % 2 = 0, {quoted(a)}, {quoted(b)})::{kind}" for a, b, kind in zip(given, others, types)]
             expected = f"if(i IN (2048, 4094), NULL, if(i % 2 = 0, {quoted(one)}, {quoted(other)}))"
             for place, value in enumerate(values):
                 arguments = [*values[:place], f"if(i IN (2048, 4094), NULL, {value})", *values[place + 1 :]]

@@ -41,8 +41,6 @@ SQLITE = Database(
 )
 CALLS = calls_of(SQLITE)
 FUNCTIONS = arguments_by_result(CALLS)
-# Arguments that each function accepts.
-ACCEPTED = [(name, next(iter(results.values()))) for (name, _), results in FUNCTIONS.items()]
 
 
 def literal(value: Any) -> str:
@@ -126,7 +124,8 @@ class Functions(Case):
         """The errors of arguments of other types than a function accepts."""
         number = ("number is not an integer", (1337.0, "-5", "", b"", b"1" * 15, b"1" * 41))
         no_uuid = ("UUID is not 32 hexadecimal digits or 16 bytes", (1337, 1.5, "1" * 16, b"", b"1" * 15, b"1" * 17))
-        for name, given in ACCEPTED:
+        for (name, _), results in FUNCTIONS.items():
+            given = next(iter(results.values()))
             text = f"{'prefix' if re.match('first|last', name) else 'string'} is not text", (1337, 13.5, b"LZ", b"1" * 62)
             kinds: dict[type, Any] = {Width: ("width is not an integer", (7.0, "7", b"7")), Text: text}
             kinds[str] = "alphabet is not text", (1, 1.5, b"1" * 62)

@@ -171,7 +171,3 @@ class Rust(unittest.TestCase):
         (folder / "extra").symlink_to("../../crates")
         fault = "missing, or neither generated nor hand-written"
         self.assertEqual(self.faults(), [f"rust/src/{name}: {fault}" for name in ("extra", "generated/fixed.rs")])
-
-
-if __name__ == "__main__":
-    unittest.main()

@@ -1,20 +1,16 @@
 //! Compares this crate with the C library: `comparison CALLS SEED`. Both get the same calls. With the feature `original`,
 //! the crate `base62` 2.2.6 gets those that it has too.
 
-/// Makes each call by the names of this crate and of another module, with the alphabet of each for `$own`, and ends the
-/// program if the results differ. How many calls there are.
+/// Makes each call by the names of this crate and of another module, with the alphabet of each for `$own`, as `equal` does.
 macro_rules! same {
     ($input:ident, $there:ident, $own:ident = $ours:expr, $theirs:expr; $($call:expr,)*) => {
-        0 $(+ {
-            let here = { use proved::*; let $own = $ours; $call };
-            let there = { use $there::*; let $own = $theirs; $call };
-            assert_eq!(here, there, "{} of {:?}", stringify!($call), $input);
-            1
-        })*
+        equal! { $input; $(
+            { use proved::*; let $own = $ours; $call } => { use $there::*; let $own = $theirs; $call },
+        )* }
     };
 }
 
-/// The same for calls of this crate that the other module lacks, with what they have to return.
+/// Compares what calls return with what they have to, and ends the program at a difference. How many calls there are.
 macro_rules! equal {
     ($input:ident; $($call:expr => $expected:expr,)*) => {
         0 $(+ {

@@ -16,14 +16,9 @@ export const textOf = (units) => new Unknown({type: 'text', units, length: units
 const isUnknown = (v) => v instanceof Unknown;
 const isBig = ({ type }) => type === 'bigint';
 const isFinite = (...values) => values.every(({ infinite }) => infinite === 'false');
+const isPlain = (v) => /^(number|bigint|string)$/.test(typeof v);
+const isListOf = (isElement, v) => Array.isArray(v) && v.every(isElement);
 const native = (operator) => new Function('a', 'b', `return a ${operator} b`);
-
-// One of two Numbers.
-function choose(m, condition, a, b) {
-  const either = (x, y) => (x === y ? x : `(ite ${condition} ${x} ${y})`);
-  const term = m.path.define(either(a.term, b.term));
-  return integer(term, least(a.low, b.low), greatest(a.high, b.high), 'number', either(a.infinite, b.infinite));
-}
 
 // ---- Operators. The operands are two Numbers or two BigInts, of which one is unknown.
 
@@ -58,8 +53,8 @@ function divide(m, operator, a, b) {
 // ToInt32, ToUint32 and the like: the integer part modulo 2**bits, which is 0 for Infinity.
 function modulo(m, v, bits, isSigned = false) {
   const [, { term, low, high }] = m.path.divide(v, power(bits), isSigned ? -power(bits - 1) : 0n);
-  const rest = integer(term, low, high, isBig(v) ? 'bigint' : 'number');
-  return isFinite(v) ? rest : choose(m, v.infinite, constant(0n), rest);
+  const rest = isFinite(v) ? term : m.path.define(`(ite ${v.infinite} 0 ${term})`);
+  return integer(rest, least(0n, low), greatest(0n, high), isBig(v) ? 'bigint' : 'number');
 }
 
 // By a constant 2**k - 1 below 2**31: modulo 2**k, which divides 2**32.
@@ -68,29 +63,11 @@ function bitwiseAnd(m, operator, a, b) {
   return !isBig(a) && /^1{1,31}$/.test(mask) ? modulo(m, a, mask.length) : m.fail();
 }
 
-// Of a multiple of 2**k and a number from 0 to 2**k - 1, which is a goal: the sum.
-function bitwiseOr(m, operator, a, b) {
-  const [{ zeros = 0 }, { zeros: others = 0 }] = [a, b];
-  if (zeros < others) return bitwiseOr(m, operator, b, a);
-  const [x, y] = isBig(a) ? [a, b] : [modulo(m, a, 32, true), modulo(m, b, 32, true)];
-  const low = m.within('the operands of | have no common bit', y, 0n, power(zeros) - 1n);
-  return Object.assign(arithmetic(m, '+', x, low), { zeros: others });
-}
-
-const shiftCount = (m, a, b) =>
-  (isConstant(b) && b.low >= 0n && b.low < (isBig(a) ? 999n : 32n) ? Number(b.low) : m.fail());
-
-// A Number keeps its lowest 32 - k bits, the highest of which is its sign now, before k zeros.
-function shiftLeft(m, operator, a, b) {
-  const zeros = shiftCount(m, a, b);
-  const kept = isBig(a) ? a : modulo(m, a, 32 - zeros, true);
-  return Object.assign(arithmetic(m, '*', kept, constant(power(zeros), a.type)), { zeros });
-}
-
-// The floor of the quotient by 2**k: of a BigInt, of a signed integer of 32 bits, or with >>> of an unsigned one.
+// By a constant: the floor of the quotient by 2**k, of a BigInt, of a signed integer of 32 bits, or with >>> of an unsigned one.
 function shiftRight(m, operator, a, b) {
-  if (isBig(a) && operator === '>>>') m.fail();
-  return m.path.divide(isBig(a) ? a : modulo(m, a, 32, operator === '>>'), power(shiftCount(m, a, b)))[0];
+  const isKnown = isConstant(b) && b.low >= 0n && b.low < (isBig(a) ? 999n : 32n) && (!isBig(a) || operator === '>>');
+  const v = isBig(a) ? a : modulo(m, a, 32, operator === '>>');
+  return isKnown ? m.path.divide(v, power(b.low))[0] : m.fail();
 }
 
 // Infinity is above all numbers. The bounds may decide it.
@@ -104,8 +81,8 @@ function compare(m, operator, a, b) {
 }
 
 const OPERATORS = new Map([
-  ['+', arithmetic], ['-', subtract], ['*', multiply], ['/', divide], ['&', bitwiseAnd], ['|', bitwiseOr],
-  ['<<', shiftLeft], ['>>', shiftRight], ['>>>', shiftRight], ['<', compare], ['<=', compare], ['===', compare],
+  ['+', arithmetic], ['-', subtract], ['*', multiply], ['/', divide], ['&', bitwiseAnd], ['>>', shiftRight],
+  ['>>>', shiftRight], ['<', compare], ['<=', compare], ['===', compare],
   ['>', (m, operator, a, b) => compare(m, '<', b, a)], ['>=', (m, operator, a, b) => compare(m, '<=', b, a)],
   ['!==', (m, operator, a, b) => not(compare(m, '===', a, b))]
 ]);
@@ -116,11 +93,11 @@ const isNumeric = ({ type }) => /^(number|quotient)$/.test(type);
 const isNumber = ({ type }) => type === 'number';
 const isFiniteNumber = (v) => isNumber(v) && isFinite(v);
 
-function minimum(m, a, b, ...others) {
-  const most = m.known(b);
-  if (others.length > 0 || !isFiniteNumber(a) || !isFiniteNumber(most) || !isConstant(most)) m.fail();
-  const v = choose(m, `(<= ${a.term} ${most.term})`, a, most);
-  return Object.assign(v, { high: most.low });
+// Of a number and a constant.
+function minimum(m, a, given, ...others) {
+  const b = m.known(given);
+  if (others.length > 0 || !isFiniteNumber(a) || !isConstant(b)) m.fail();
+  return integer(m.path.define(`(ite (<= ${a.term} ${b.term}) ${a.term} ${b.term})`), least(a.low, b.low), b.high);
 }
 
 // Of a Number that is no such integer, a double, nothing else is known.
@@ -150,17 +127,33 @@ function isLowercase(m, { units }, string) {
 }
 
 export const charCodeAt = (string, i) => string.charCodeAt(i);
+const refuse = (m) => m.fail();
 const CALLS = new Map([
   [Math.floor, floor], [Math.min, minimum], [Number.isSafeInteger, isSafeInteger], [String.fromCharCode, fromCharCode],
-  [charCodeAt, unitAt]
+  [charCodeAt, unitAt], [Array, refuse]
 ]);
-const METHODS = new Map(Object.entries({ charCodeAt: unitAt, fill, slice, toLowerCase }));
+const LIST_METHODS = [[].fill, [].push, [].reduce];
+const METHODS = new Map(Object.entries({ charCodeAt: unitAt, slice, toLowerCase }));
 
 // ---- Typed arrays. Those of a buffer share its cells, which are as wide as the elements of the narrowest of them. What a
 // function creates has a list of stores instead, each with its index, once one of them is not known.
 
 export const arrayOf = (cells, bits, kind = 'Uint', length = cells.length) =>
   new Unknown({type: 'array', cells, bits, kind, length});
+
+// Of a length or a list of numbers, or over a buffer. What two arrays share is not known, and both are unsigned.
+function createArray(m, Type, given) {
+  const bits = 8 * Type.BYTES_PER_ELEMENT;
+  const kind = Type.name.replace(/\d+Array$/, '');
+  if (given.type !== 'buffer')
+    return arrayOf(Object.assign([...new Type(given)], { bits, kind, areOpen: true, stores: [] }), bits, kind);
+  const { cells, bytes } = given;
+  if (cells.kind && !/^(Big)?Uint(Big)?Uint$/.test(cells.kind + kind)) m.fail();
+  if (!(cells.bits <= bits)) Object.assign(cells, { length: 8 * bytes / bits, bits, kind }).fill(undefined);
+  return arrayOf(cells, bits, kind, 8 * bytes / bits);
+}
+
+const bufferOf = (cells, bytes) => new Unknown({ type: 'buffer', cells, bytes });
 const isIndex = (index, { length }) => Number.isInteger(index) && index >= 0 && index < length;
 
 function unknownIndex(m, { length }, index) {
@@ -177,7 +170,7 @@ function readElement(m, array, index) {
     if (lookup) return lookup(i);
     if (bits !== cells.bits) m.fail();
     // Of the stores from the last one on, the first whose index may be this one has to have just this one.
-    const isOther = ([j]) => [i, j].every(({ term }) => m.distinct.has(term)) && i.term !== j.term;
+    const isOther = ([j]) => [i, j].every(({ term }) => m.distinct.includes(term)) && i.term !== j.term;
     const [j, v] = cells.stores?.findLast((stored) => !isOther(stored)) ?? [i, fromTable(m, cells, i)];
     return j.term === i.term ? v : m.fail();
   }
@@ -229,14 +222,6 @@ function storeElement(m, array, index, v) {
   }
 }
 
-// Writes a value to all elements.
-function fill(m, array, ...values) {
-  if (values.length !== 1) m.fail();
-  const v = m.known(values[0]);
-  for (let i = 0; i < array.length; i++) storeElement(m, array, i, v);
-  return array;
-}
-
 // ---- The rules of forms
 
 const TYPES = new Map(Object.entries({ text: 'string', array: 'object', bigint: 'bigint' }));
@@ -249,8 +234,7 @@ const RULES = {
     if (x === '' && operator === '+' && y.type === 'text') return y;
     if (x?.type === 'lowercase' && operator === '===' && typeof y === 'string') return isLowercase(m, x, y);
     const [a, b] = [m.known(x), m.known(y)];
-    const types =
-      [a, b].map(({ type }) => (type === 'quotient' && /^([&|]|<<|>>>?)$/.test(operator) ? 'number' : type));
+    const types = [a, b].map(({ type }) => (type === 'quotient' && /^(&|>>>?)$/.test(operator) ? 'number' : type));
     const isKnown = types[0] === types[1] && /^(number|bigint)$/.test(types[0]) && OPERATORS.has(operator);
     return isKnown ? OPERATORS.get(operator)(m, operator, a, b) : m.fail();
   },
@@ -282,13 +266,17 @@ const RULES = {
     return value;
   },
 
-  member: (m, object, name) => (name === 'length' || object === String ? object[name] : undefined) ?? m.fail(),
+  member(m, object, name) {
+    if (name !== 'buffer') return (name === 'length' || object === String ? object[name] : undefined) ?? m.fail();
+    const { type, cells, bits, length } = object;
+    return type === 'array' && !cells.areOpen ? bufferOf(cells, length * bits / 8) : m.fail();
+  },
 
-  create(m, Type, ...values) {
-    if (![Float64Array, Uint16Array].includes(Type) || values.length !== 1 || !Number.isInteger(values[0])) m.fail();
-    const array = m.copy(new Type(values[0]));
-    Object.assign(array.cells, { areOpen: true, stores: [] });
-    return array;
+  create(m, Type, given, ...others) {
+    const isKnown =
+      Number.isInteger(given) || (Type !== ArrayBuffer && (given?.type === 'buffer' || isListOf(isPlain, given)));
+    if (!isKnown || others.length > 0) m.fail();
+    return Type === ArrayBuffer ? bufferOf([], given) : createArray(m, Type, given);
   },
 
   // A function of the modules, one with a rule, or one of Node with known values.
@@ -298,7 +286,7 @@ const RULES = {
       const result = values.length === f.length ? m.stubs[f.name](...values) : undefined;
       return result === undefined ? m.fail() : result;
     }
-    if (isOwn || (f === Array.prototype.push && Array.isArray(self))) return f.apply(self, values);
+    if (isOwn || (LIST_METHODS.includes(f) && Array.isArray(self))) return f.apply(self, values);
     if (!CALLS.has(f)) m.fail();
     return values.some(isUnknown) ? CALLS.get(f)(m, ...values) : f(...values);
   },
@@ -317,51 +305,39 @@ export class Machine {
   unused = new Unknown({});
   steps = 0;
   stubs = { __proto__: null };
-  distinct = new Set();
-  buffers = new Map();
+  distinct = [];
+  values = {};
+  charCodeAt = charCodeAt;
 
-  constructor({ code, values, names, tables }, path) {
-    this.path = path;
+  constructor({ code, others }, path) {
+    Object.assign(this, { path, others });
     for (const [name, rule] of Object.entries(RULES))
       this[name] = (at, ...given) => rule(Object.assign(this, { at }), ...given);
-    const widths = ([, x], [, y]) => (x?.BYTES_PER_ELEMENT ?? 0) - (y?.BYTES_PER_ELEMENT ?? 0);
-    this.values = Object.fromEntries(Object.entries(values).sort(widths).map(([name, v]) => [name, this.copy(v)]));
-    // What is no table is not known, unless a proof opens it.
-    for (const [name, { cells }] of Object.entries(this.values)) !tables.has(name) && cells?.fill(undefined);
-    const create = new Function(
-      '$', 'values', `'use strict';\nconst { ${Object.keys(this.values)} } = values;\n${code}return { ${names} };`);
-    this.functions = create(this, this.values);
+    new Function('$', code)(this);
   }
 
-  // The elements of a typed array. The narrowest one of a buffer comes first.
-  copy(value) {
-    if (!ArrayBuffer.isView(value)) return value === undefined ? new Unknown({}) : value;
-    const bits = value.BYTES_PER_ELEMENT * 8;
-    const kind = value.constructor.name.replace(/\d+Array$/, '');
-    const found = this.buffers.get(value.buffer);
-    const areUnsigned = /^(Big)?Uint$/.test(kind) && found?.kind === 'Uint';
-    if (value.byteOffset !== 0 || (found && !areUnsigned)) return new Unknown({});
-    const cells = found ?? Object.assign([...value], { bits, kind });
-    this.buffers.set(value.buffer, cells);
-    return arrayOf(cells, bits, kind, value.length);
+  // What a module computes is known if nothing may change it later: a number, a BigInt, a string, or a table, which is an array
+  // of such that is only read. Of other typed arrays, nothing else is known, unless a proof opens them.
+  value(name, init) {
+    let v;
+    try {
+      v = init();
+    } catch { v = undefined; }
+    const isTable = !this.others.has(name);
+    if (v?.type === 'array') {
+      Object.assign(v.cells, { areOpen: false, stores: undefined });
+      if (!isTable) v.cells.fill(undefined);
+    } else if (!isPlain(v) && v !== charCodeAt && !(isTable && isListOf(isPlain, v))) v = new Unknown({});
+    return this.values[name] = v;
   }
 
-  // Lets functions read an array, which has any elements, or write it too.
-  fill(name, areOpen = false) {
-    const { cells, bits, kind } = this.values[name];
-    cells.areOpen = areOpen;
-    const low = kind === 'Int' ? -power(bits - 1) : 0n;
-    cells.forEach((cell, i) => cells[i] = this.path.input(low, low + power(bits) - 1n));
+  // Lets functions read an array, which has any elements, and write it if it is for results.
+  open(name, isForResults = true) {
+    const { cells } = this.values[name];
+    cells.areOpen = isForResults;
+    const low = cells.kind === 'Int' ? -power(cells.bits - 1) : 0n;
+    for (let i = 0; i < cells.length; i++) cells[i] = this.path.input(low, low + power(cells.bits) - 1n);
     return cells;
-  }
-
-  open(name) { return this.fill(name, true); }
-
-  // Assumes that no two values are the same.
-  assumeDistinct(values) {
-    const terms = values.map(({ term }) => term);
-    this.path.assume(`(distinct ${terms.join(' ')})`);
-    this.distinct = new Set(terms);
   }
 
   fail([place, text] = this.at) { throw new Error(`${place}: no rule for \`${text}\``); }

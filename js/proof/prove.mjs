@@ -155,12 +155,11 @@ prove('digitOf', ({ digitOf }, m, path) => {
 
 for (let count = 1; count <= 22; count++)
   prove(`stringOfGroups: ${count} characters`, ({ stringOfGroups }, m, path) => {
-    path.lines.push('(declare-fun code (Int) Int)');
-    const codeOf = ({ term }) => {
-      path.assume(range(`(code ${term})`, 0n, 127n));
-      return `(code ${term})`;
+    path.lines.push('(declare-fun pair (Int) Int)');
+    const lookup = ({ term }) => {
+      path.assume(range(`(pair ${term})`, 0n, power(16) - 1n));
+      return integer(`(pair ${term})`, 0n, power(16) - 1n);
     };
-    const split = (v, divisor) => [...path.divide(v, divisor)].reverse();
     m.open('codes');
     const groups = m.open('groups', false);
     groups.forEach((group, i) => groups[i] = path.input(0n, GROUP - 1n));
@@ -168,16 +167,13 @@ for (let count = 1; count <= 22; count++)
       const number = total(groups, GROUP, value);
       return `[encodeFixed(${number % 62n ** BigInt(count)}n, ${count}), encodeKey(${number % 62n ** 21n}n)]`;
     };
-    const digits = groups.flatMap((group) => split(group, 62n ** 2n)).flatMap((pair) => split(pair, 62n));
-    const pairs = Object.assign(arrayOf(Object.assign([], { bits: 16 }), 16), { length: 62 ** 2 });
-    pairs.lookup = (index) => {
-      const [low, high] = split(index, 62n);
-      return integer(path.define(`(+ ${codeOf(high)} (* 256 ${codeOf(low)}))`), 0n, power(16) - 1n);
-    };
+    // Least significant first. The high byte of a pair is the code of its low digit.
+    const codes = groups.flatMap((group) => [...path.divide(group, 62n ** 2n)].reverse())
+                    .flatMap((pair) => path.divide(lookup(pair), 256n));
+    const pairs = Object.assign(arrayOf([], 16), { length: 62 ** 2, lookup });
     const { units } = stringOfGroups(count, pairs);
     path.prove('its length', `${units.length === count}`);
-    units.forEach(
-      (unit, i) => path.prove('the code of a digit', equal(termOf(m, unit), codeOf(digits[count - 1 - i]))));
+    units.forEach((unit, i) => path.prove('the code of a digit', equal(termOf(m, unit), codes[count - 1 - i].term)));
   });
 
 // ---- UUIDs
@@ -353,32 +349,31 @@ function hasPrefix({ term }, width, { length, digits }) {
   return all([`(> ${width.term} 0)`, either([`(and (>= ${others} 22) (= 0 ${digits.term}))`, ...forms])]);
 }
 
-for (const name of ['prefixRange', 'keyRange'])
-  prove(name, (functions, m, path) => {
-    const prefix = prefixOf(m, path);
-    const widths = name === 'keyRange' ? [] : [path.input(0n, MOST_OF_NUMBERS)];
-    path.show = (value) => `${name}(${[prefix.show(value), ...widths.map(value)]})`;
-    path.isError = not(prefix.areDigits);
-    const result = functions[name](prefix, ...widths);
-    path.prove('it throws an error if a character is invalid', prefix.areDigits);
-    const number = path.input(0n, MOST);
-    const [first, last] = (result ?? []).map((end) => termOf(m, end, 'bigint'));
-    const isIn = result === null ? 'false' : `(<= ${first} ${number.term} ${last})`;
-    const [width = constant(22n)] = widths;
-    path.prove('the numbers of this width that have the prefix', equal(isIn, hasPrefix(number, width, prefix)));
-    if (result) path.prove('both ends are numbers', `(<= 0 ${first} ${last} ${MOST})`);
-  });
-
-prove('keyBounds', ({ keyBounds }, m, path) => {
-  const isNone = path.decide(equal(1, path.input(0n, 1n).term));
-  path.show = () => `keyBounds('${isNone ? 8 : 0}')`;
-  const [prefix, ...ends] = list(3, () => path.unknown(0n, MOST));
-  m.stubs.keyRange = (text) => text !== prefix ? m.fail() : isNone ? null : ends;
-  m.stubs.encodeKey = (number) => Object.assign(textOf([]), { number });
-  const keys = keyBounds(prefix);
-  const isRight = isNone ? keys === null : keys.length === 2 && ends.every((end, i) => keys[i].number === end);
-  path.prove('the keys of both ends, or null', `${isRight}`);
+prove('prefixRange', ({ prefixRange }, m, path) => {
+  const [prefix, width] = [prefixOf(m, path), path.input(0n, MOST_OF_NUMBERS)];
+  path.show = (value) => `prefixRange(${prefix.show(value)}, ${value(width)})`;
+  path.isError = not(prefix.areDigits);
+  const result = prefixRange(prefix, width);
+  path.prove('it throws an error if a character is invalid', prefix.areDigits);
+  const number = path.input(0n, MOST);
+  const [first, last] = (result ?? []).map((end) => termOf(m, end, 'bigint'));
+  const isIn = result === null ? 'false' : `(<= ${first} ${number.term} ${last})`;
+  path.prove('the numbers of this width that have the prefix', equal(isIn, hasPrefix(number, width, prefix)));
+  if (result) path.prove('both ends are numbers', `(<= 0 ${first} ${last} ${MOST})`);
 });
+
+for (const name of ['keyRange', 'keyBounds'])
+  prove(name, (functions, m, path) => {
+    const isNone = path.decide(equal(1, path.input(0n, 1n).term));
+    path.show = () => `${name}('${isNone ? 8 : 0}')`;
+    const [prefix, ...ends] = list(3, () => path.unknown(0n, MOST));
+    m.stubs.prefixRange = (text, width) => text !== prefix || width !== 22 ? m.fail() : isNone ? null : ends;
+    m.stubs.encodeKey = (number) => Object.assign(textOf([]), { number });
+    const result = functions[name](prefix);
+    const numbers = name === 'keyRange' ? result : result?.map(({ number }) => number);
+    const isRight = isNone ? result === null : numbers.length === 2 && ends.every((end, i) => numbers[i] === end);
+    path.prove('both ends for the prefix of a key, or null', `${isRight}`);
+  });
 
 prove('encodeKey', ({ encodeKey }, m, path) => {
   const number = path.input(0n, MOST, 'bigint');
@@ -392,10 +387,14 @@ prove('encodeKey', ({ encodeKey }, m, path) => {
 
 // ---- The results
 
-let passed = 0, failed = 0, done = 0;
+let passed = 0, failed = 0;
 function report(line) {
   failed++;
   console.log(line);
+}
+function end() {
+  console.log(`${passed} passed, ${failed} failed`);
+  process.exit(Number(failed > 0 || passed === 0));
 }
 const statements = readFileSync(new URL('README.md', import.meta.url), 'utf8').match(/## What is proved\n[^#]*/)[0];
 const namesOf = (names) => [...new Set(names)].sort().join(', ');
@@ -405,14 +404,12 @@ if (named !== proved) report(`README.md names ${named}; proved are ${proved}`);
 // Most mistakes are seen on a short path.
 paths.sort((x, y) => x.lines.length - y.lines.length);
 await solve(paths, ({ name, passed: count, open, example }) => {
-  if (++done % 100 === 0) console.error(`${done} of ${paths.length} paths`);
   passed += count;
   const shown = example ? `; in Node: Object.assign(globalThis, await import('${folder}/index.js')), ${example}` : '';
   if (open) report(`${name}: not proved: ${open}${shown}`);
-  return example;
+  if (example) end();
 });
 for (const name of new Set(paths.map(({ name }) => name)))
   if (failed === 0 && !paths.some((path) => path.name === name && path.isPossible))
     report(`${name}: not proved: a path that is possible`);
-console.log(`${passed} passed, ${failed} failed`);
-process.exitCode = Number(failed > 0 || passed === 0);
+end();

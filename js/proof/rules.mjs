@@ -11,7 +11,7 @@ const EXACT = power(53);
 const least = (...values) => values.reduce((x, y) => (y < x ? y : x));
 const greatest = (...values) => values.reduce((x, y) => (y > x ? y : x));
 const not = (v) => (isUnknown(v) ? boolean(`(not ${v.term})`) : !v);
-const boolean = (term) => (/^(true|false)$/.test(term) ? term === 'true' : new Unknown({ type: 'boolean', term }));
+const boolean = (term) => new Unknown({ type: 'boolean', term });
 export const textOf = (units) => new Unknown({type: 'text', units, length: units.length});
 const isUnknown = (v) => v instanceof Unknown;
 const isBig = ({ type }) => type === 'bigint';
@@ -70,21 +70,16 @@ function shiftRight(m, operator, a, b) {
   return isKnown ? m.path.divide(v, power(b.low))[0] : m.fail();
 }
 
-// Infinity is above all numbers. The bounds may decide it.
+// Infinity is above all numbers.
 const orInfinity = (v) => (isFinite(v) ? v.term : `(ite ${v.infinite} ${EXACT + 1n} ${v.term})`);
-function compare(m, operator, a, b) {
-  const holds = native(operator);
-  const isKnown = isFinite(a, b) && a.low !== undefined && b.low !== undefined &&
-    holds(a.high, b.low) === holds(a.low, b.high) && (operator !== '===' || a.high < b.low || b.high < a.low);
-  const smt = operator === '===' ? '=' : operator;
-  return boolean(isKnown ? `${holds(a.low, b.high)}` : `(${smt} ${orInfinity(a)} ${orInfinity(b)})`);
-}
+const compare = (m, operator, a, b) => boolean(`(${operator} ${orInfinity(a)} ${orInfinity(b)})`);
+const equal = (m, operator, a, b) => compare(m, '=', a, b);
 
 const OPERATORS = new Map([
   ['+', arithmetic], ['-', subtract], ['*', multiply], ['/', divide], ['&', bitwiseAnd], ['>>', shiftRight],
-  ['>>>', shiftRight], ['<', compare], ['<=', compare], ['===', compare],
+  ['>>>', shiftRight], ['<', compare], ['<=', compare], ['===', equal],
   ['>', (m, operator, a, b) => compare(m, '<', b, a)], ['>=', (m, operator, a, b) => compare(m, '<=', b, a)],
-  ['!==', (m, operator, a, b) => not(compare(m, '===', a, b))]
+  ['!==', (m, operator, a, b) => not(equal(m, '', a, b))]
 ]);
 
 // ---- Functions of the language, of unknown values

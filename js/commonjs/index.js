@@ -365,7 +365,7 @@ function checkCanonical(text, length) {
 // is found once, and common paths read the length of '' + text, which V8 knows to be a string.
 const charCodeAt = ''.charCodeAt.call.bind(''.charCodeAt);
 
-// The value of each hexadecimal digit by its code. For other codes, whose value is the last one, sums in readHex are negative.
+// The value of each hexadecimal digit by its code. That of other codes, the last one, makes each sum in readHex negative.
 const invalid = (count) => Array(count).fill(-(2 ** 16));
 const HEX_VALUES = new Int32Array([
   ...invalid(48), 0, 1, 2, 3, 4, 5, 6, 7, 8, 9, ...invalid(7), 10, 11, 12, 13, 14, 15, ...invalid(26), 10, 11, 12, 13,
@@ -373,12 +373,12 @@ const HEX_VALUES = new Int32Array([
 ]);
 const HEX = new Uint8Array([48, 49, 50, 51, 52, 53, 54, 55, 56, 57, 97, 98, 99, 100, 101, 102]);
 
+const hexDigit = (string, i) => HEX_VALUES[Math.min(charCodeAt(string, i), 128)];
+
 // Returns the value of four digits, or a negative number if one is invalid.
 function readHex(string, start) {
-  const a = HEX_VALUES[Math.min(charCodeAt(string, start), 128)];
-  const b = HEX_VALUES[Math.min(charCodeAt(string, start + 1), 128)];
-  const c = HEX_VALUES[Math.min(charCodeAt(string, start + 2), 128)];
-  return ((a * 16 + b) * 16 + c) * 16 + HEX_VALUES[Math.min(charCodeAt(string, start + 3), 128)];
+  const high = hexDigit(string, start) * 16 + hexDigit(string, start + 1);
+  return (high * 16 + hexDigit(string, start + 2)) * 16 + hexDigit(string, start + 3);
 }
 
 const HYPHEN = 45;

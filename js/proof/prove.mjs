@@ -180,35 +180,38 @@ for (let count = 1; count <= 22; count++)
 
 const HYPHENS = [8, 13, 18, 23];
 
-// Code units, with the values of their hexadecimal digits, or -1.
+// Code units, with the values of their hexadecimal digits, or -2**16.
 function hexUnits(path, length) {
   const units = list(length, () => path.input(0n, 65535n));
   path.show = (value) => `encodeUuid(${stringOf(units, value)})`;
   for (const unit of units) {
     const [digit, upper, lower] = [[48n, 57n], [65n, 70n], [97n, 102n]].map((ends) => range(unit.term, ...ends));
     const [a, b, c] = [48, 55, 87].map((less) => `(- ${unit.term} ${less})`);
-    unit.hex = { term: path.define(`(ite ${digit} ${a} (ite ${upper} ${b} (ite ${lower} ${c} (- 1))))`) };
+    unit.hex =
+      integer(path.define(`(ite ${digit} ${a} (ite ${upper} ${b} (ite ${lower} ${c} (- 65536))))`), -power(16), 15n);
   }
   return units;
 }
 
 const areHex = (digits) => all(digits.map(({ term }) => `(<= 0 ${term})`));
+const hexDigitOf = ({ units }, i) => units[i]?.hex;
 
-// What readHex returns for four digits: their value, or a negative number.
-function isHex(term, units) {
-  const digits = units.map(({ hex }) => hex).reverse();
-  const isValue = implies(areHex(digits), equal(term, sum(digits, 16n)));
-  return [range(term, -power(31), power(16) - 1n), equal(`(<= 0 ${term})`, areHex(digits)), isValue];
-}
+prove('hexDigit', ({ hexDigit }, m, path) => {
+  const units = hexUnits(path, 1);
+  path.show = (value) => `encodeUuid(${stringOf(units, value)} + '${'0'.repeat(31)}')`;
+  list(128, (code) => code).find((code) => path.decide(equal(units[0].term, code)));
+  path.prove('the value of a digit, or -2**16', equal(termOf(m, hexDigit(textOf(units), 0)), units[0].hex.term));
+});
 
 for (let start = 0; start <= 41; start++)
   prove(`readHex: from ${start}`, ({ readHex }, m, path) => {
     const units = hexUnits(path, start + 4);
-    const digits = units.slice(start);
-    path.show = (value) => `encodeUuid(${stringOf(digits, value)} + '${'0'.repeat(28)}')`;
-    const string = Object.assign(textOf(units), { length: path.unknown(BigInt(start + 4), 45n) });
-    for (const term of isHex(termOf(m, readHex(string, start)), digits))
-      path.prove('the value of four digits, or a negative number', term);
+    path.show = (value) => `encodeUuid(${stringOf(units.slice(start), value)} + '${'0'.repeat(28)}')`;
+    m.stubs.hexDigit = hexDigitOf;
+    const term = termOf(m, readHex(textOf(units), start));
+    const digits = units.slice(start).map(({ hex }) => hex).reverse();
+    path.prove('it is negative exactly if one is no digit', equal(`(<= 0 ${term})`, areHex(digits)));
+    path.prove('the value of four digits', implies(areHex(digits), equal(term, sum(digits, 16n))));
   });
 
 // A unit is a character in lowercase or uppercase.
@@ -219,12 +222,7 @@ for (let length = 0; length <= 45; length++)
   prove(`readUuidString: ${length} characters`, ({ readUuidString }, m, path) => {
     const words = m.open('words');
     const units = hexUnits(path, length);
-    m.stubs.readHex = ({ units }, start) => {
-      const digits = start >= 0 && start <= 41 ? units.slice(start, start + 4) : [];
-      const v = digits.length === 4 ? path.unknown(-power(31), power(16) - 1n) : m.fail();
-      isHex(v.term, digits).forEach((term) => path.assume(term));
-      return v;
-    };
+    m.stubs.hexDigit = hexDigitOf;
     const isRead = termOf(m, readUuidString(textOf(units)));
     const [start, end] = length > 38 ? ['urn:uuid:', ''] : [34, 38].includes(length) ? ['{', '}'] : ['', ''];
     const others = new Map([...start, ...end].map((c, i) => [i < start.length ? i : length - 1, c]));
@@ -307,7 +305,11 @@ for (const [type, most, ...bounds] of TYPES)
     path.isError = not(isValid);
     const count = path.unknown(0n, 22n);
     path.assume(equal(equal(0, count.term), path.isError));
-    m.stubs[type === 'bigint' ? 'splitBigInt' : 'splitInteger'] = (given) => given === number ? count : m.fail();
+    m.stubs.splitBigInt = (given) => given === number && type === 'bigint' ? count : m.fail();
+    m.stubs.splitInteger = (given) => {
+      path.prove('splitInteger is for integers from 0 to 2**53 - 1', isValid);
+      return given === number && type === 'number' ? count : m.fail();
+    };
     path.prove('it returns the count of digits', `${splitNumber(number) === count}`);
     path.prove('it throws an error for numbers out of range', isValid);
   });

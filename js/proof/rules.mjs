@@ -178,19 +178,13 @@ function readElement(m, array, index) {
     m.path.define(`(+ ${parts.join(' ')})`), 0n, power(bits) - 1n, kind === 'BigUint' ? 'bigint' : 'number');
 }
 
-// One piece for each run of values that are equal, or of which each is one more than the one before.
+// One piece for each run of values that are equal.
 function fromTable(m, cells, index) {
   if (cells.every((cell) => cell === cells[0])) return m.known(cells[0]);
-  if (!cells.every(Number.isInteger)) m.fail();
-  const values = cells.map(BigInt);
-  let term = '0';
-  for (let end = values.length - 1, i = end; end >= 0; end = --i) {
-    const step = end > 0 && values[end] - values[end - 1] === 1n ? 1n : 0n;
-    while (i > 0 && values[i] - values[i - 1] === step) i--;
-    const piece = step ? `(+ ${index.term} ${literal(values[end] - BigInt(end))})` : literal(values[end]);
-    term = `(ite (<= ${index.term} ${end}) ${piece} ${term})`;
-  }
-  return integer(m.path.define(term), least(0n, ...values), greatest(0n, ...values));
+  const values = cells.map((cell) => Number.isInteger(cell) ? BigInt(cell) : m.fail());
+  const term = values.reduceRight(
+    (others, v, i) => (v === values[i + 1] ? others : `(ite (<= ${index.term} ${i}) ${literal(v)} ${others})`), '0');
+  return integer(m.path.define(term), least(...values), greatest(...values));
 }
 
 // Each element of a list is a path of its own.

@@ -111,10 +111,9 @@ function parseFile(file) {
 }
 
 // What functions may use of the language.
-const LANGUAGE = [
-  'Infinity', 'undefined', 'Array', 'ArrayBuffer', 'BigUint64Array', 'Float64Array', 'Int32Array', 'Math', 'Number',
-  'String', 'Uint16Array', 'Uint32Array', 'Uint8Array'
-];
+const LANGUAGE =
+  `Infinity undefined Array ArrayBuffer BigUint64Array Float64Array Int32Array Math Number String Uint16Array
+  Uint32Array Uint8Array`.split(/\s+/);
 
 // Of modules, by file and text: a program that declares what they declare, its functions, and the names that are used otherwise
 // than to read an element. The modules have one scope, as in join_modules.mjs.

@@ -314,55 +314,45 @@ for (const [type, most, ...bounds] of TYPES)
     path.prove('it throws an error for numbers out of range', isValid);
   });
 
-// A prefix of 0 to 22 units, the number of its digits, and whether all are digits: what is proved of the functions that read
-// it, over the standard alphabet.
-function prefixOf(m, path) {
-  const [length, isAll, digits] = [path.input(0n, 22n), path.input(0n, 1n), path.input(0n, 62n ** 22n - 1n)];
-  path.assume(either(list(23, (i) => all([equal(length.term, i), `(< ${digits.term} ${62n ** BigInt(i)})`]))));
-  const show = (value) => {
-    const digitAt = (i) => DIGITS[value(digits) / 62n ** BigInt(i) % 62n];
-    const text = list(Number(value(length)), digitAt).reverse().join('');
-    return `'${value(isAll) ? text : text.replace(/.$/, '-')}'`;
-  };
-  const areDigits = equal(1, isAll.term);
-  const prefix = Object.assign(textOf([]), { length, digits, areDigits, show });
-  let used;
-  const checkGiven = (text, start, end) =>
-    (text === prefix && start === 0 && end === length && used === m.values.standard) || m.fail();
-  m.stubs.use = (alphabet) => used = alphabet;
-  m.stubs.readDigits = (...given) =>
-    checkGiven(...given) && new Unknown({ type: 'boolean', term: all([areDigits, `(<= ${digits.term} ${MOST})`]) });
-  m.stubs.indexOfInvalid = (...given) => {
-    const index = checkGiven(...given) && path.unknown(0n, 22n);
-    path.assume(all([`(<= ${index.term} ${length.term})`, equal(equal(index.term, length.term), areDigits)]));
-    return index;
-  };
-  m.stubs.bigIntOfWords = () => integer(digits.term, 0n, digits.high, 'bigint');
-  return prefix;
-}
-
-// Whether the string of this width has the prefix: its number is that of the prefix, before `others` more digits.
-function hasPrefix({ term }, width, { length, digits }) {
-  const others = `(- ${width.term} ${length.term})`;
+// Whether the string of this width has a prefix: its number is that of the prefix, before `others` more digits.
+function hasPrefix(number, width, length, digits) {
+  const others = `(- ${width} ${length})`;
   const forms = list(22, (i) => {
-    const [count, least] = [62n ** BigInt(i), `(* ${62n ** BigInt(i)} ${digits.term})`];
-    return all([equal(others, i), `(<= ${least} ${term})`, `(< ${term} (+ ${least} ${count}))`]);
+    const [count, least] = [62n ** BigInt(i), `(* ${62n ** BigInt(i)} ${digits})`];
+    return all([equal(others, i), `(<= ${least} ${number})`, `(< ${number} (+ ${least} ${count}))`]);
   });
-  return all([`(> ${width.term} 0)`, either([`(and (>= ${others} 22) (= 0 ${digits.term}))`, ...forms])]);
+  return all([`(> ${width} 0)`, either([`(and (>= ${others} 22) (= 0 ${digits}))`, ...forms])]);
 }
 
-prove('prefixRange', ({ prefixRange }, m, path) => {
-  const [prefix, width] = [prefixOf(m, path), path.input(0n, MOST_OF_NUMBERS)];
-  path.show = (value) => `prefixRange(${prefix.show(value)}, ${value(width)})`;
-  path.isError = not(prefix.areDigits);
-  const result = prefixRange(prefix, width);
-  path.prove('it throws an error if a character is invalid', prefix.areDigits);
-  const number = path.input(0n, MOST);
-  const [first, last] = (result ?? []).map((end) => termOf(m, end, 'bigint'));
-  const isIn = result === null ? 'false' : `(<= ${first} ${number.term} ${last})`;
-  path.prove('the numbers of this width that have the prefix', equal(isIn, hasPrefix(number, width, prefix)));
-  if (result) path.prove('both ends are numbers', `(<= 0 ${first} ${last} ${MOST})`);
-});
+// Of the functions that read the prefix, the number of its digits and whether all are digits are what is proved of them.
+for (let length = 0; length <= 22; length++)
+  prove(`prefixRange: ${length} units`, ({ prefixRange }, m, path) => {
+    const [isAll, digits] = [path.input(0n, 1n), path.input(0n, 62n ** BigInt(length) - 1n, 'bigint')];
+    const [width, number] = [path.input(0n, MOST_OF_NUMBERS), path.input(0n, MOST)];
+    path.show = (value) => {
+      const text = list(length, (i) => DIGITS[value(digits) / 62n ** BigInt(i) % 62n]).reverse().join('');
+      return `prefixRange('${value(isAll) ? text : text.replace(/.$/, '-')}', ${value(width)})`;
+    };
+    const [prefix, areDigits] = [Object.assign(textOf([]), { length }), equal(1, isAll.term)];
+    path.isError = not(areDigits);
+    const isRead = all([areDigits, `(<= ${digits.term} ${MOST})`]);
+    const index = path.unknown(0n, BigInt(length));
+    path.assume(equal(equal(index.term, length), areDigits));
+    let used;
+    m.stubs.use = (alphabet) => used = alphabet;
+    const give = (v) => (text, start, end) =>
+      text === prefix && start === 0 && end === length && used === m.values.standard ? v : m.fail();
+    m.stubs.readDigits = give(new Unknown({ type: 'boolean', term: isRead }));
+    m.stubs.indexOfInvalid = give(index);
+    m.stubs.bigIntOfWords = () => digits;
+    const result = prefixRange(prefix, width);
+    path.prove('it throws an error if a character is invalid', areDigits);
+    const [first, last] = (result ?? []).map((end) => termOf(m, end, 'bigint'));
+    const isIn = result === null ? 'false' : `(<= ${first} ${number.term} ${last})`;
+    const isExpected = hasPrefix(number.term, width.term, length, digits.term);
+    path.prove('the numbers of this width that have the prefix', equal(isIn, isExpected));
+    if (result) path.prove('both ends are numbers', `(<= 0 ${first} ${last} ${MOST})`);
+  });
 
 for (const name of ['keyRange', 'keyBounds'])
   prove(name, (functions, m, path) => {

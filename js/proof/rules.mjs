@@ -149,9 +149,8 @@ function createArray(m, Type, given) {
 }
 
 const bufferOf = (cells, bytes) => new Unknown({ type: 'buffer', cells, bytes });
-const isIndex = (index, { length }) => Number.isInteger(index) && index >= 0 && index < length;
 
-function unknownIndex(m, { length }, index) {
+function indexIn(m, { length }, index) {
   const i = m.known(index);
   if (!isFiniteNumber(i)) m.fail();
   return m.within('an index in the array', i, 0n, BigInt(length) - 1n);
@@ -160,16 +159,15 @@ function unknownIndex(m, { length }, index) {
 // An index that is not known is for a table, or an array with a `lookup`.
 function readElement(m, array, index) {
   const { cells, bits, kind, lookup } = array;
-  if (isUnknown(index) || lookup || cells.stores?.length > 0) {
-    const i = unknownIndex(m, array, index);
-    if (lookup) return lookup(i);
+  const i = indexIn(m, array, index);
+  if (lookup) return lookup(i);
+  if (isUnknown(index) || cells.stores?.length > 0) {
     if (bits !== cells.bits) m.fail();
     // Of the stores from the last one on, the first whose index may be this one has to have just this one.
     const isOther = ([j]) => [i, j].every(({ term }) => m.distinct.includes(term)) && i.term !== j.term;
     const [j, v] = cells.stores?.findLast((stored) => !isOther(stored)) ?? [i, fromTable(m, cells, i)];
     return j.term === i.term ? v : m.fail();
   }
-  if (!isIndex(index, array)) m.fail();
   const width = bits / cells.bits;
   if (width === 1) return cells[index] ?? m.fail();
   const parts = cells.slice(index * width, index * width + width)
@@ -189,7 +187,7 @@ function fromTable(m, cells, index) {
 
 // Each element of a list is a path of its own.
 function readList(m, list, index) {
-  const i = unknownIndex(m, list, index);
+  const i = indexIn(m, list, index);
   const last = Math.min(Number(i.high), list.length - 1);
   return list.find((v, j) => j >= i.low && (j === last || m.path.decide(`(= ${i.term} ${j})`)));
 }
@@ -198,11 +196,11 @@ function readList(m, list, index) {
 function storeElement(m, array, index, v) {
   const { cells, bits, kind } = array;
   const holds = { Float: isNumber, Int: isNumeric, Uint: isNumeric, BigUint: isBig }[kind];
-  if (!cells.areOpen || !holds?.(v)) m.fail();
+  if (!cells?.areOpen || !holds?.(v)) m.fail();
   let rest = kind === 'Float' ? v : modulo(m, v, bits, kind === 'Int');
-  if (cells.stores && (isUnknown(index) || cells.stores.length > 0))
-    return cells.stores.push([unknownIndex(m, array, index), rest]);
-  if (!isIndex(index, array)) m.fail();
+  const at = indexIn(m, array, index);
+  if (cells.stores && (isUnknown(index) || cells.stores.length > 0)) return cells.stores.push([at, rest]);
+  if (isUnknown(index)) m.fail();
   const width = bits / cells.bits;
   for (let i = index * width; i < (index + 1) * width; i++) {
     const [higher, { term, low, high }] = m.path.divide(rest, power(cells.bits));
@@ -250,7 +248,6 @@ const RULES = {
   },
 
   store(m, array, index, value) {
-    if (array?.type !== 'array') m.fail();
     storeElement(m, array, index, m.known(value));
     return value;
   },

@@ -137,13 +137,15 @@ class Solver {
       if (line.input) inputs.push(line.input);
       else if (!line.goal) script.push(line);
       else {
+        path.open = line.goal;
         const result = await this.refute(script.splice(0), line.term, inputs, 3_000_000);
         if (result === 'sat') path.example = path.show?.(await this.valuesOf(inputs));
-        if (result !== 'unsat') return path.open = line.goal;
+        if (result !== 'unsat') return;
         script.push('(pop)', `(assert ${line.term})`);
         path.passed++;
       }
     }
+    path.open = undefined;
     path.isPossible = await this.refute(script, 'false', inputs, 300_000) === 'sat';
   }
 

@@ -209,7 +209,7 @@ for (const body of BODIES) test(body, () => compare(body, pairs(numbers.filter((
 test('a path ends at its first open goal, with an example, and an impossible one is found', async () => {
   const paths = explore((path) => {
     const x = path.input(0n, 5n);
-    path.show = (value) => `f(${value(x)})`;
+    path.show = (value) => `${path.open}: f(${value(x)})`;
     path.prove('known', '(= 5 5)');
     if (path.decide(`(< ${x.term} 5)`)) path.prove('unknown', `(< ${x.term} 4)`);
     // 33 is the sum of three cubes, which z3 does not find.
@@ -218,7 +218,8 @@ test('a path ends at its first open goal, with an example, and an impossible one
   });
   const impossible = explore((path) => path.assume('false')), possible = explore((path) => path.input(0n, 5n));
   await solve([...paths, ...impossible, ...possible]);
-  assert.deepEqual(paths.map(({ open, example }) => [open, example]), [['unknown', 'f(4)'], ['cubes', undefined]]);
+  assert.deepEqual(
+    paths.map(({ open, example }) => [open, example]), [['unknown', 'unknown: f(4)'], ['cubes', undefined]]);
   assert.deepEqual([impossible, possible].map(([{ isPossible }]) => isPossible), [false, true]);
 });
 test('an open array can have all elements', async () => {

@@ -185,10 +185,10 @@ function hexUnits(path, length) {
   const units = list(length, () => path.input(0n, 65535n));
   path.show = (value) => `encodeUuid(${stringOf(units, value)})`;
   for (const unit of units) {
-    const [digit, upper, lower] = [[48n, 57n], [65n, 70n], [97n, 102n]].map((ends) => range(unit.term, ...ends));
-    const [a, b, c] = [48, 55, 87].map((less) => `(- ${unit.term} ${less})`);
-    unit.hex =
-      integer(path.define(`(ite ${digit} ${a} (ite ${upper} ${b} (ite ${lower} ${c} (- 65536))))`), -power(16), 15n);
+    const value = [[48n, 57n, 48], [65n, 70n, 55], [97n, 102n, 87]].reduce(
+      (others, [low, high, less]) => `(ite ${range(unit.term, low, high)} (- ${unit.term} ${less}) ${others})`,
+      '(- 65536)');
+    unit.hex = integer(path.define(value), -power(16), 15n);
   }
   return units;
 }

@@ -185,13 +185,6 @@ function fromTable(m, cells, index) {
   return integer(m.path.define(term), least(...values), greatest(...values));
 }
 
-// Each element of a list is a path of its own.
-function readList(m, list, index) {
-  const i = indexIn(m, list, index);
-  const last = Math.min(Number(i.high), list.length - 1);
-  return list.find((v, j) => j >= i.low && (j === last || m.path.decide(`(= ${i.term} ${j})`)));
-}
-
 // An element keeps a value modulo 2**bits, or if it is a double the value.
 function storeElement(m, array, index, v) {
   const { cells, bits, kind } = array;
@@ -241,9 +234,13 @@ const RULES = {
   and: (m, left, right) => (RULES.holds(m, left) ? right() : !isUnknown(left) && left),
   or: (m, left, right) => (RULES.holds(m, left) ? isUnknown(left) || left : right()),
 
+  // Each element of a list is a path of its own.
   read(m, object, index) {
     if (isUnknown(object) && object.type === 'array') return readElement(m, object, index);
-    if (Array.isArray(object) && isUnknown(index)) return readList(m, object, index);
+    if (Array.isArray(object) && isUnknown(index)) {
+      const { term } = indexIn(m, object, index);
+      return object.slice(0, -1).find((v, i) => m.path.decide(`(= ${term} ${i})`)) ?? object.at(-1);
+    }
     return isUnknown(object) || isUnknown(index) ? m.fail() : object[index] ?? m.fail();
   },
 

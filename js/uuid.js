@@ -16,12 +16,12 @@ const HEX_VALUES = new Int32Array([
 ]);
 const HEX = new Uint8Array([48, 49, 50, 51, 52, 53, 54, 55, 56, 57, 97, 98, 99, 100, 101, 102]);
 
-const hexDigit = (string, i) => HEX_VALUES[Math.min(charCodeAt(string, i), 128)];
-
 // Returns the value of four digits, or a negative number if one is invalid.
 function readHex(string, start) {
-  const high = hexDigit(string, start) * 16 + hexDigit(string, start + 1);
-  return (high * 16 + hexDigit(string, start + 2)) * 16 + hexDigit(string, start + 3);
+  const a = HEX_VALUES[Math.min(charCodeAt(string, start), 128)];
+  const b = HEX_VALUES[Math.min(charCodeAt(string, start + 1), 128)];
+  const c = HEX_VALUES[Math.min(charCodeAt(string, start + 2), 128)];
+  return ((a * 16 + b) * 16 + c) * 16 + HEX_VALUES[Math.min(charCodeAt(string, start + 3), 128)];
 }
 
 const HYPHEN = 45;

@@ -92,7 +92,7 @@ function examine(node, ancestors, others, assigned) {
   if (async || generator || isInner || /^(arguments|eval)$/.test(name)) refuse(node);
   const isRead = parent.computed && parent.object === node && typeof parent.property.value !== 'string' &&
     grand.callee !== parent &&
-    /^((ArrowFunction|Binary|Call)Expression|ReturnStatement|VariableDeclarator)$/.test(grand.type);
+    /^(BinaryExpression|CallExpression|ReturnStatement|VariableDeclarator)$/.test(grand.type);
   if (name && !isRead && parent.id !== node) others.add(name);
   const isAssignment = /^(Assignment|Update)Expression$|^For(In|Of)Statement$/.test(type);
   if (isAssignment) namesIn(node.left ?? node.argument).forEach((name) => assigned.set(name, node));

@@ -194,20 +194,26 @@ function hexUnits(path, length) {
 }
 
 const areHex = (digits) => all(digits.map(({ term }) => `(<= 0 ${term})`));
-const hexDigitOf = ({ units }, i) => units[i]?.hex;
+const hexIndex = (m, unit) => m.call('', Math.min, undefined, unit, 128);
 
-prove('hexDigit', ({ hexDigit }, m, path) => {
-  const units = hexUnits(path, 1);
-  path.show = (value) => `encodeUuid(${stringOf(units, value)} + '${'0'.repeat(31)}')`;
-  list(128, (code) => code).find((code) => path.decide(equal(units[0].term, code)));
-  path.prove('the value of a digit, or -2**16', equal(termOf(m, hexDigit(textOf(units), 0)), units[0].hex.term));
+prove('HEX_VALUES', (functions, m, path) => {
+  const [unit] = hexUnits(path, 1);
+  path.show = (value) => `encodeUuid(${stringOf([unit], value)} + '${'0'.repeat(31)}')`;
+  list(128, (code) => code).find((code) => path.decide(equal(unit.term, code)));
+  const value = m.read(['HEX_VALUES', ''], m.values.HEX_VALUES, hexIndex(m, unit));
+  path.prove('the value of a digit, or -2**16', equal(termOf(m, value), unit.hex.term));
 });
+
+// The table, of these units.
+function useHexValues(m, units) {
+  m.values.HEX_VALUES.lookup = (index) => units.find((unit) => hexIndex(m, unit).term === index.term)?.hex ?? m.fail();
+}
 
 for (let start = 0; start <= 41; start++)
   prove(`readHex: from ${start}`, ({ readHex }, m, path) => {
     const units = hexUnits(path, start + 4);
     path.show = (value) => `encodeUuid(${stringOf(units.slice(start), value)} + '${'0'.repeat(28)}')`;
-    m.stubs.hexDigit = hexDigitOf;
+    useHexValues(m, units);
     const term = termOf(m, readHex(textOf(units), start));
     const digits = units.slice(start).map(({ hex }) => hex).reverse();
     path.prove('it is negative exactly if one is no digit', equal(`(<= 0 ${term})`, areHex(digits)));
@@ -222,7 +228,7 @@ for (let length = 0; length <= 45; length++)
   prove(`readUuidString: ${length} characters`, ({ readUuidString }, m, path) => {
     const words = m.open('words');
     const units = hexUnits(path, length);
-    m.stubs.hexDigit = hexDigitOf;
+    useHexValues(m, units);
     const isRead = termOf(m, readUuidString(textOf(units)));
     const [start, end] = length > 38 ? ['urn:uuid:', ''] : [34, 38].includes(length) ? ['{', '}'] : ['', ''];
     const others = new Map([...start, ...end].map((c, i) => [i < start.length ? i : length - 1, c]));

@@ -10,7 +10,7 @@ import {Machine, textOf} from './rules.mjs';
 const ARRAYS =
   `const halves = new BigUint64Array(2), words = new Uint32Array(halves.buffer), groups = new Int32Array(2);
 const times = (count, v) => Array(count).fill(v);
-const table = new Int32Array([...times(48, -1), 0, 1, 2, 3, 4, 5, 6, 7, 8, 9, -3, -2, -1, ...times(39, 7), 5, ...times(28, 7)]);`;
+const table = new Int32Array([5, ...times(47, -1), 0, 1, 2, 3, 4, 5, 6, 7, 8, 9, -3, -2, -1, 0, ...times(38, 7), 5, ...times(28, 7)]);`;
 // The same ones in each run, so that a failure comes again.
 let state = 62n;
 function random(bits) {
@@ -119,7 +119,9 @@ const REFUSED = [
   ['const g = () => 1; g.state = 5;', 'return g.state;'],
   ['const g = (process) => process;', "return process['argv'].length;"],
   ["const charCodeAt = ''.codePointAt.call.bind(''.codePointAt);", "return charCodeAt('A', 0);"],
-  ['const upper = new Uint32Array(halves.buffer, 4);', 'return upper[0];']
+  ['const upper = new Uint32Array(halves.buffer, 4);', 'return upper[0];'],
+  ['', 'const t = new Uint16Array(4), u = new Uint32Array(t.buffer); t[x & 3] = 5; u[0] = 65543; return t[0];'],
+  ['const t = new Uint8Array(1);', 't[0] = 5; return t[0];']
 ];
 // What writes a table later, or may.
 const WRITES = [

@@ -198,7 +198,7 @@ const hexIndex = (m, unit) => m.call('', Math.min, undefined, unit, 128);
 
 prove('HEX_VALUES', (functions, m, path) => {
   const [unit] = hexUnits(path, 1);
-  path.show = (value) => `encodeUuid(${stringOf([unit], value)} + '${'0'.repeat(31)}')`;
+  path.show = (value) => `encodeUuid('FFF' + ${stringOf([unit], value)} + '${'0'.repeat(28)}')`;
   list(128, (code) => code).find((code) => path.decide(equal(unit.term, code)));
   const value = m.read(['HEX_VALUES', ''], m.values.HEX_VALUES, hexIndex(m, unit));
   path.prove('the value of a digit, or -2**16', equal(termOf(m, value), unit.hex.term));

@@ -65,8 +65,8 @@ export function splitBigInt(number) {
 function splitLowWords() {
   const low = words[0];
   const high = words[1];
-  if (high < 2 ** 21) return splitInteger(high * TWO_TO_32 + low);
-  const limb1 = (low >>> 24) | ((high & 0xffff) << 8);
+  if (high < 2 ** 21) return splitInteger(high * 2 ** 32 + low);
+  const limb1 = (low >>> 24) + (high & 0xffff) * 256;
   const limb2 = high >>> 16;
   const quotient = splitGroup(0, (low & LOWEST_24_BITS) + limb1 * 2000880 + limb2 * 5522224);
   groups[2] = limb2 + splitGroup(1, limb1 + limb2 * 4272701 + quotient);  // below 2**64 / 62**8 < 2**17
@@ -76,8 +76,8 @@ function splitLowWords() {
 
 export function splitWords() {
   const limb0 = words[0] & LOWEST_24_BITS;
-  const limb1 = (words[0] >>> 24) | ((words[1] & 0xffff) << 8);
-  const limb2 = (words[1] >>> 16) | ((words[2] & 0xff) << 16);
+  const limb1 = (words[0] >>> 24) + (words[1] & 0xffff) * 256;
+  const limb2 = (words[1] >>> 16) + (words[2] & 0xff) * 65536;
   const limb3 = words[2] >>> 8;
   const limb4 = words[3] & LOWEST_24_BITS;
   const limb5 = words[3] >>> 24;
@@ -121,7 +121,7 @@ function joinLongParts(high, middle, low) {
     sum2 + (sum3 & LOWEST_24_BITS) * TWO_TO_24 + Math.floor(sum1 / TWO_TO_24) + Math.floor(bits0 / TWO_TO_48);
   const bits96 = high1 * 10095023 + Math.floor(sum3 / TWO_TO_24) + Math.floor(bits48 / TWO_TO_48);  // below 2**37
   words[0] = bits0;
-  words[1] = ((bits0 / TWO_TO_32) & 0xffff) | ((bits48 & 0xffff) << 16);
+  words[1] = ((bits0 / TWO_TO_32) & 0xffff) + (bits48 & 0xffff) * 65536;
   words[2] = bits48 / 2 ** 16;
   words[3] = bits96;
   return bits96 < TWO_TO_32;
@@ -129,7 +129,7 @@ function joinLongParts(high, middle, low) {
 
 export function bigIntOfWords() {
   if (words[2] === 0 && words[3] === 0) return halves[0];
-  return (halves[1] << 64n) | halves[0];
+  return halves[1] * TWO_TO_64 + halves[0];
 }
 
 // Returns -1 if the number is above 2**53 - 1.
@@ -144,7 +144,7 @@ const codes = new Uint8Array(pairsOfCodes.buffer);
 
 // Writes the codes of four digits.
 function writeGroup(group, at, pairs) {
-  const high = (group / 62 ** 2) | 0;
+  const high = (group / 62 ** 2) >> 0;
   pairsOfCodes[at] = pairs[high];
   pairsOfCodes[at + 1] = pairs[group - high * 62 ** 2];
 }

@@ -13,7 +13,7 @@ const tables = new WeakMap();
 
 // The digit of each code, as in strings.js. The characters are 62 of ASCII.
 function createDigits(characters) {
-  const digits = new Float64Array(129).fill(Infinity);
+  const digits = new Float64Array(Array(129).fill(Infinity));
   for (let digit = 0; digit < 62; digit++) {
     const code = characters.charCodeAt(digit);
     if (digits[code] < 62)
@@ -26,7 +26,7 @@ function createDigits(characters) {
 // The codes of the two characters of each number below 62**2, the first in the low byte.
 function createPairs(characters) {
   const pairs = new Uint16Array(62 ** 2);
-  for (let i = 0; i < 62 ** 2; i++) pairs[i] = characters.charCodeAt(i / 62) | (characters.charCodeAt(i % 62) << 8);
+  for (let i = 0; i < 62 ** 2; i++) pairs[i] = characters.charCodeAt(i / 62) + characters.charCodeAt(i % 62) * 256;
   return pairs;
 }
 

@@ -8,20 +8,20 @@ import {words} from './digits.js';
 // is found once, and common paths read the length of '' + text, which V8 knows to be a string.
 export const charCodeAt = ''.charCodeAt.call.bind(''.charCodeAt);
 
-// The value of each hexadecimal digit by its code, and for any other code, as the last element, a number that makes each sum
-// in readHex negative.
-const HEX_VALUES = Int32Array.from({ length: 129 }, (_, code) => {
-  const value = '0123456789abcdef'.indexOf(String.fromCharCode(code).toLowerCase());
-  return value < 0 ? -(2 ** 16) : value;
-});
-const HEX = Uint8Array.from('0123456789abcdef', (digit) => digit.charCodeAt(0));
+// The value of each hexadecimal digit by its code. That of other codes, the last one, makes each sum in readHex negative.
+const invalid = (count) => Array(count).fill(-(2 ** 16));
+const HEX_VALUES = new Int32Array([
+  ...invalid(48), 0, 1, 2, 3, 4, 5, 6, 7, 8, 9, ...invalid(7), 10, 11, 12, 13, 14, 15, ...invalid(26), 10, 11, 12, 13,
+  14, 15, ...invalid(26)
+]);
+const HEX = new Uint8Array([48, 49, 50, 51, 52, 53, 54, 55, 56, 57, 97, 98, 99, 100, 101, 102]);
 
 // Returns the value of four digits, or a negative number if one is invalid.
 function readHex(string, start) {
   const a = HEX_VALUES[Math.min(charCodeAt(string, start), 128)];
   const b = HEX_VALUES[Math.min(charCodeAt(string, start + 1), 128)];
   const c = HEX_VALUES[Math.min(charCodeAt(string, start + 2), 128)];
-  return (a << 12) + (b << 8) + (c << 4) + HEX_VALUES[Math.min(charCodeAt(string, start + 3), 128)];
+  return ((a * 16 + b) * 16 + c) * 16 + HEX_VALUES[Math.min(charCodeAt(string, start + 3), 128)];
 }
 
 const HYPHEN = 45;
@@ -42,10 +42,10 @@ function readUuid(string, start, length) {
   const g = readHex(string, start + 24 + 4 * hyphen);
   const h = readHex(string, start + 28 + 4 * hyphen);
   if (a < 0 || b < 0 || c < 0 || d < 0 || e < 0 || f < 0 || g < 0 || h < 0) return false;
-  words[3] = (a << 16) | b;
-  words[2] = (c << 16) | d;
-  words[1] = (e << 16) | f;
-  words[0] = (g << 16) | h;
+  words[3] = a * 65536 + b;
+  words[2] = c * 65536 + d;
+  words[1] = e * 65536 + f;
+  words[0] = g * 65536 + h;
   return true;
 }
 
@@ -60,7 +60,7 @@ export function readUuidString(string) {
 
 export function readUuidBytes(bytes) {
   for (let i = 0; i < 4; i++) {
-    words[3 - i] = (bytes[4 * i] << 24) | (bytes[4 * i + 1] << 16) | (bytes[4 * i + 2] << 8) | bytes[4 * i + 3];
+    words[3 - i] = bytes[4 * i] * 2 ** 24 + bytes[4 * i + 1] * 65536 + bytes[4 * i + 2] * 256 + bytes[4 * i + 3];
   }
 }
 

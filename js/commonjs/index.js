@@ -67,8 +67,8 @@ function splitBigInt(number) {
 function splitLowWords() {
   const low = words[0];
   const high = words[1];
-  if (high < 2 ** 21) return splitInteger(high * TWO_TO_32 + low);
-  const limb1 = (low >>> 24) | ((high & 0xffff) << 8);
+  if (high < 2 ** 21) return splitInteger(high * 2 ** 32 + low);
+  const limb1 = (low >>> 24) + (high & 0xffff) * 256;
   const limb2 = high >>> 16;
   const quotient = splitGroup(0, (low & LOWEST_24_BITS) + limb1 * 2000880 + limb2 * 5522224);
   groups[2] = limb2 + splitGroup(1, limb1 + limb2 * 4272701 + quotient);  // below 2**64 / 62**8 < 2**17
@@ -78,8 +78,8 @@ function splitLowWords() {
 
 function splitWords() {
   const limb0 = words[0] & LOWEST_24_BITS;
-  const limb1 = (words[0] >>> 24) | ((words[1] & 0xffff) << 8);
-  const limb2 = (words[1] >>> 16) | ((words[2] & 0xff) << 16);
+  const limb1 = (words[0] >>> 24) + (words[1] & 0xffff) * 256;
+  const limb2 = (words[1] >>> 16) + (words[2] & 0xff) * 65536;
   const limb3 = words[2] >>> 8;
   const limb4 = words[3] & LOWEST_24_BITS;
   const limb5 = words[3] >>> 24;
@@ -123,7 +123,7 @@ function joinLongParts(high, middle, low) {
     sum2 + (sum3 & LOWEST_24_BITS) * TWO_TO_24 + Math.floor(sum1 / TWO_TO_24) + Math.floor(bits0 / TWO_TO_48);
   const bits96 = high1 * 10095023 + Math.floor(sum3 / TWO_TO_24) + Math.floor(bits48 / TWO_TO_48);  // below 2**37
   words[0] = bits0;
-  words[1] = ((bits0 / TWO_TO_32) & 0xffff) | ((bits48 & 0xffff) << 16);
+  words[1] = ((bits0 / TWO_TO_32) & 0xffff) + (bits48 & 0xffff) * 65536;
   words[2] = bits48 / 2 ** 16;
   words[3] = bits96;
   return bits96 < TWO_TO_32;
@@ -131,7 +131,7 @@ function joinLongParts(high, middle, low) {
 
 function bigIntOfWords() {
   if (words[2] === 0 && words[3] === 0) return halves[0];
-  return (halves[1] << 64n) | halves[0];
+  return halves[1] * TWO_TO_64 + halves[0];
 }
 
 // Returns -1 if the number is above 2**53 - 1.
@@ -146,7 +146,7 @@ const codes = new Uint8Array(pairsOfCodes.buffer);
 
 // Writes the codes of four digits.
 function writeGroup(group, at, pairs) {
-  const high = (group / 62 ** 2) | 0;
+  const high = (group / 62 ** 2) >> 0;
   pairsOfCodes[at] = pairs[high];
   pairsOfCodes[at + 1] = pairs[group - high * 62 ** 2];
 }
@@ -365,20 +365,20 @@ function checkCanonical(text, length) {
 // is found once, and common paths read the length of '' + text, which V8 knows to be a string.
 const charCodeAt = ''.charCodeAt.call.bind(''.charCodeAt);
 
-// The value of each hexadecimal digit by its code, and for any other code, as the last element, a number that makes each sum
-// in readHex negative.
-const HEX_VALUES = Int32Array.from({ length: 129 }, (_, code) => {
-  const value = '0123456789abcdef'.indexOf(String.fromCharCode(code).toLowerCase());
-  return value < 0 ? -(2 ** 16) : value;
-});
-const HEX = Uint8Array.from('0123456789abcdef', (digit) => digit.charCodeAt(0));
+// The value of each hexadecimal digit by its code. That of other codes, the last one, makes each sum in readHex negative.
+const invalid = (count) => Array(count).fill(-(2 ** 16));
+const HEX_VALUES = new Int32Array([
+  ...invalid(48), 0, 1, 2, 3, 4, 5, 6, 7, 8, 9, ...invalid(7), 10, 11, 12, 13, 14, 15, ...invalid(26), 10, 11, 12, 13,
+  14, 15, ...invalid(26)
+]);
+const HEX = new Uint8Array([48, 49, 50, 51, 52, 53, 54, 55, 56, 57, 97, 98, 99, 100, 101, 102]);
 
 // Returns the value of four digits, or a negative number if one is invalid.
 function readHex(string, start) {
   const a = HEX_VALUES[Math.min(charCodeAt(string, start), 128)];
   const b = HEX_VALUES[Math.min(charCodeAt(string, start + 1), 128)];
   const c = HEX_VALUES[Math.min(charCodeAt(string, start + 2), 128)];
-  return (a << 12) + (b << 8) + (c << 4) + HEX_VALUES[Math.min(charCodeAt(string, start + 3), 128)];
+  return ((a * 16 + b) * 16 + c) * 16 + HEX_VALUES[Math.min(charCodeAt(string, start + 3), 128)];
 }
 
 const HYPHEN = 45;
@@ -399,10 +399,10 @@ function readUuid(string, start, length) {
   const g = readHex(string, start + 24 + 4 * hyphen);
   const h = readHex(string, start + 28 + 4 * hyphen);
   if (a < 0 || b < 0 || c < 0 || d < 0 || e < 0 || f < 0 || g < 0 || h < 0) return false;
-  words[3] = (a << 16) | b;
-  words[2] = (c << 16) | d;
-  words[1] = (e << 16) | f;
-  words[0] = (g << 16) | h;
+  words[3] = a * 65536 + b;
+  words[2] = c * 65536 + d;
+  words[1] = e * 65536 + f;
+  words[0] = g * 65536 + h;
   return true;
 }
 
@@ -417,7 +417,7 @@ function readUuidString(string) {
 
 function readUuidBytes(bytes) {
   for (let i = 0; i < 4; i++) {
-    words[3 - i] = (bytes[4 * i] << 24) | (bytes[4 * i + 1] << 16) | (bytes[4 * i + 2] << 8) | bytes[4 * i + 3];
+    words[3 - i] = bytes[4 * i] * 2 ** 24 + bytes[4 * i + 1] * 65536 + bytes[4 * i + 2] * 256 + bytes[4 * i + 3];
   }
 }
 
@@ -440,7 +440,7 @@ const tables = new WeakMap();
 
 // The digit of each code, as in strings.js. The characters are 62 of ASCII.
 function createDigits(characters) {
-  const digits = new Float64Array(129).fill(Infinity);
+  const digits = new Float64Array(Array(129).fill(Infinity));
   for (let digit = 0; digit < 62; digit++) {
     const code = characters.charCodeAt(digit);
     if (digits[code] < 62)
@@ -453,7 +453,7 @@ function createDigits(characters) {
 // The codes of the two characters of each number below 62**2, the first in the low byte.
 function createPairs(characters) {
   const pairs = new Uint16Array(62 ** 2);
-  for (let i = 0; i < 62 ** 2; i++) pairs[i] = characters.charCodeAt(i / 62) | (characters.charCodeAt(i % 62) << 8);
+  for (let i = 0; i < 62 ** 2; i++) pairs[i] = characters.charCodeAt(i / 62) + characters.charCodeAt(i % 62) * 256;
   return pairs;
 }
 

@@ -1,8 +1,5 @@
 // Reads modules, and writes their functions so that each operator, condition, read, store and call is a call of a rule.
 import {createRequire} from 'node:module';
-import {runInNewContext} from 'node:vm';
-
-import {charCodeAt} from './rules.mjs';
 
 const require = createRequire(import.meta.url);
 const { parse } = require('/usr/share/nodejs/acorn');
@@ -26,19 +23,19 @@ const FORMS = {
   'CallExpression MemberExpression': "$.method({at}, {callee.object}, '{callee.property}', {arguments})",
   'AssignmentExpression = Identifier': '({left} = {right})',
   'AssignmentExpression = []': '$.store({at}, {left.object}, {left.property}, {right})',
-  'UpdateExpression Identifier': "({argument} = $.binary({at}, '{operator}'[0], {argument}, 1), $.unused)",
-  'VariableDeclaration const': 'const {declarations};',
-  'VariableDeclaration let': 'let {declarations};',
+  UpdateExpression: "({argument} = $.binary({at}, '{operator}'[0], {argument}, 1), $.unused)",
+  VariableDeclaration: '{kind} {declarations};',
   VariableDeclarator: '{id} = {init}',
+  ArrowFunctionExpression: '({params}) => {body}',
   ArrayPattern: '[{elements}]',
   AssignmentPattern: '{left} = {right}',
   ExpressionStatement: '{expression};',
   BlockStatement: '{ {body} }',
   ReturnStatement: 'return {argument};',
   ThrowStatement: 'throw $.thrown;',
-  IfStatement: 'if ($.holds({at}, {test})) {consequent} else {alternate}',
+  IfStatement: 'if ($.holds({at}, {test})) {consequent} else { {alternate} }',
   WhileStatement: 'while ($.holds({at}, {test})) {body}',
-  ForStatement: 'for ({init} $.holds({at}, {test}); {update}) {body}'
+  ForStatement: '{ {init}; for (; $.holds({at}, {test}); {update}) {body} }'
 };
 
 // What tells forms of one type apart.
@@ -47,96 +44,64 @@ const VARIANTS = {
   AssignmentExpression: ({ operator, left }) => `${operator} ${kindOf(left)}`,
   CallExpression: ({ callee }) => kindOf(callee),
   LogicalExpression: ({ operator }) => operator,
-  MemberExpression: ({ computed }) => (computed ? '[]' : '.'),
-  UpdateExpression: ({ argument }) => argument.type,
-  VariableDeclaration: ({ kind }) => kind
+  MemberExpression: ({ computed }) => (computed ? '[]' : '.')
 };
-
-// What stands for a part that is absent.
-const ABSENT = new Map([['ForStatement init', ';'], ['ForStatement test', 'true'], ['IfStatement alternate', ';']]);
 
 const placeOf = ({ loc, sourceFile: [file] }) => `${file}:${loc.start.line}`;
 function refuse(node) { throw new Error(`${placeOf(node)}: no rule for this`); }
 
-// A form without a line above is an error where it runs.
+// The one function of the language that has a name in the modules.
+const CHAR_CODE_AT = "''.charCodeAt.call.bind(''.charCodeAt)";
+
+// A form without a line above is an error where it runs. A part that is absent is empty.
 function formOf(node) {
   if (!node) return '';
   const { type, start, end, sourceFile: [, source] } = node;
-  const at = JSON.stringify([placeOf(node), source.slice(start, end).split('\n')[0].slice(0, 80)]);
+  const text = source.slice(start, end);
+  if (text === CHAR_CODE_AT) return '$.charCodeAt';
+  const at = JSON.stringify([placeOf(node), text.split('\n')[0].slice(0, 80)]);
   const form = FORMS[VARIANTS[type] ? `${type} ${VARIANTS[type](node)}` : type];
   if (form === undefined) return `$.fail(${at})${type.endsWith('Statement') ? ';' : ''}`;
   return form.replace(/\{(\w+)(?:\.(\w+))?\}/g, (all, name, part) => {
     const value = name === 'at' ? at : part ? node[name][part] : node[name];
     if (Array.isArray(value)) return value.map(formOf).join(name === 'body' ? ' ' : ', ');
-    return typeof value === 'string' ? value : value ? formOf(value) : ABSENT.get(`${type} ${name}`) ?? '';
+    return typeof value === 'string' ? value : formOf(value);
   });
 }
 
-function functionOf([name, init]) {
-  const { type, params, body } = init;
-  const text = body.type === 'BlockStatement' ? formOf(body) : `{ return ${formOf(body)}; }`;
-  const code = `function ${name}(${params.map(formOf)}) ${text}`;
+const isFunction = (init) => init !== undefined && /Function/.test(init.type);
+
+// A function, or a value that is computed once. Without a form of its own it is not known.
+function declarationOf([name, init]) {
+  const { params, body } = init ?? {};
+  const block = body?.type === 'BlockStatement' ? formOf(body) : `{ return ${formOf(body)}; }`;
+  const code = isFunction(init) ? `function ${name}(${params.map(formOf)}) ${block}` :
+                                  `const ${name} = $.value('${name}', () => ${formOf(init) || undefined});`;
   try {
     new Function(`'use strict'; ${code}`);
   } catch { refuse(init); }
-  return type === 'ArrowFunctionExpression' ? `const ${name} = ${code};\n` : `${code}\n`;
+  return `${code}\n`;
 }
 
-// Refuses what the functions that are written would lose. Notes the names that are assigned to, and those that stand elsewhere
-// than where they are declared or an element is read.
+// Refuses what these lines would lose. Notes the names that are assigned to, and those that stand elsewhere than where they
+// are declared or an element is read.
 function examine(node, ancestors, others, assigned) {
-  const { type, kind, name, operator, async, generator } = node;
+  const { type, name, async, generator } = node;
   const [parent = {}, grand = {}] = [ancestors.at(-2), ancestors.at(-3)];
   const isInner = ancestors.length > 1 && /^(Function|Class)Declaration$/.test(type);
-  const isOutside = !ancestors.some(({ type }) => /Function|Class/.test(type));
-  const isLost = async || generator || kind === 'var' || isInner || /^(arguments|eval)$/.test(name);
-  if (isLost || (operator === 'typeof' && isOutside)) refuse(node);
-  const isElement = parent.computed && parent.object === node;
-  const isRead = isElement && typeof parent.property.value !== 'string' && grand.callee !== parent &&
+  if (async || generator || isInner || /^(arguments|eval)$/.test(name)) refuse(node);
+  const isRead = parent.computed && parent.object === node && typeof parent.property.value !== 'string' &&
+    grand.callee !== parent &&
     /^(BinaryExpression|CallExpression|ReturnStatement|VariableDeclarator)$/.test(grand.type);
   if (name && !isRead && parent.id !== node) others.add(name);
   const isAssignment = /^(Assignment|Update)Expression$|^For(In|Of)Statement$/.test(type);
-  if (isAssignment) nodesIn(node.left ?? node.argument).forEach(({ name }) => assigned.set(name, node));
+  if (isAssignment) namesIn(node.left ?? node.argument).forEach((name) => assigned.set(name, node));
 }
 
-// What may stand in what computes a value that is known: forms, names, and properties.
-const COMPUTING = new Set(`ArrayExpression ArrowFunctionExpression BinaryExpression BlockStatement CallExpression
-  ConditionalExpression Identifier Literal MemberExpression NewExpression ObjectExpression Property ReturnStatement
-  SpreadElement UnaryExpression VariableDeclaration VariableDeclarator`.split(/\s+/));
-const NAMES = /^(Array|ArrayBuffer|Infinity|String|(Big)?(Uint|Int)\d+Array|Float64Array)$/;
-const PROPERTIES = /^(buffer|charCodeAt|fill|from|fromCharCode|indexOf|of|reduce|toLowerCase)$/;
-
-// Whether these nodes compute a value of numbers, BigInts and strings alone, in the same way on each platform.
-function areComputing(nodes, known) {
-  const names = new Set([...known, ...nodes.flatMap(({ id, params = [] }) => [id, ...params].map((v) => v?.name))]);
-  return nodes.every(({ type, computed, name, operator = '', property, regex }) => COMPUTING.has(type) && !regex &&
-      /^\W*$/.test(operator) && (!name || names.has(name) || NAMES.test(name)) &&
-      (!property || (computed ? typeof property.value !== 'string' : PROPERTIES.test(property.name))));
-}
-
-function nodesIn(root) {
-  const nodes = [];
-  full(root, (node) => nodes.push(node));
-  return nodes;
-}
-
-// The values that functions may know: numbers, BigInts, strings and arrays that are computed. A table is an array of such that
-// is only read. Of arrays that are no table nothing is computed, but that another one may have the same buffer.
-function knownValues(variables, natives, others) {
-  const tables = new Set(), values = {};
-  const isPlain = (v) => /^(number|bigint|string)$/.test(typeof v);
-  for (const [name, init] of variables) {
-    const [v, nodes] = [natives[name], nodesIn(init)];
-    const isArray = ArrayBuffer.isView(v) || Array.isArray(v);
-    const isKnown = ({ name }) => !variables.has(name) || tables.has(name) || isPlain(values[name]);
-    const buffers =
-      nodes.filter(({ property, computed }) => !computed && property?.name === 'buffer').map(({ object }) => object);
-    const isUsed = nodes.every((node) => isKnown(node) || buffers.includes(node));
-    if (!isUsed || !areComputing(nodes, Object.keys(values)) || !(isPlain(v) || isArray)) continue;
-    if (isArray && nodes.every(isKnown) && !others.has(name) && [...v].every(isPlain)) tables.add(name);
-    if (!Array.isArray(v) || tables.has(name)) values[name] = v;
-  }
-  return { values, tables };
+function namesIn(root) {
+  const names = [];
+  full(root, ({ name }) => names.push(...name ? [name] : []));
+  return names;
 }
 
 function parseFile(file) {
@@ -146,15 +111,14 @@ function parseFile(file) {
 }
 
 // What functions may use of the language.
-const LANGUAGE = ['Infinity', 'undefined', 'Math', 'Number', 'String', 'Float64Array', 'Uint16Array'];
-const CHAR_CODE_AT = "''.charCodeAt.call.bind(''.charCodeAt)";
+const LANGUAGE =
+  `Infinity undefined Array ArrayBuffer BigUint64Array Float64Array Int32Array Math Number String Uint16Array
+  Uint32Array Uint8Array`.split(/\s+/);
 
-// Of modules, by file and text: the functions, the values of the names in them that are known, the tables among them, and what
-// Node has for each variable. The modules have one scope, as in join_modules.mjs.
+// Of modules, by file and text: a program that declares what they declare, its functions, and the names that are used otherwise
+// than to read an element. The modules have one scope, as in join_modules.mjs.
 export function read(files) {
-  const functions = new Map(), variables = new Map(), assigned = new Map();
-  const others = new Set(), declared = new Set(LANGUAGE);
-  let modules = '';
+  const declared = new Map(), assigned = new Map(), others = new Set();
   for (const file of files)
     for (const node of parseFile(file)) {
       const isPlain = ({ imported, local }) => imported?.name === local.name;
@@ -162,32 +126,19 @@ export function read(files) {
       if (node.source && (!isOwn(node.source) || !(node.specifiers ?? []).every(isPlain))) refuse(node);
       if (node.source || node.specifiers?.length > 0) continue;
       const declaration = node.declaration ?? node;
-      const { kind, start, end, id, declarations = [{ id, init: declaration }] } = declaration;
       fullAncestor(declaration, (v, _, ancestors) => examine(v, ancestors, others, assigned));
-      modules += `${file[1].slice(start, end)};\n`;
-      for (const { id, init } of declarations) {
-        const names = id ? nodesIn(id).map(({ name }) => name) : [];
-        if (names.some((name) => declared.has(name))) refuse(node);
-        names.forEach((name) => declared.add(name));
-        if (id?.name && kind !== 'let') (/Function/.test(init.type) ? functions : variables).set(id.name, init);
-      }
+      const { kind, id, declarations = [{ id, init: declaration }] } = declaration;
+      for (const { id, init } of declarations)
+        for (const name of id ? namesIn(id) : []) {
+          if (declared.has(name) || LANGUAGE.includes(name)) refuse(node);
+          declared.set(name, id.name && !/^(let|var)$/.test(kind) ? init : undefined);
+        }
     }
+  const inits = [...declared.values()].filter((init) => init);
+  const names = [...declared.keys()].filter((name) => isFunction(declared.get(name)));
   for (const [name, node] of assigned)
-    if (functions.has(name) || LANGUAGE.includes(name)) refuse(node);
-  const natives = runInNewContext(`'use strict';
-[Math, Number, String, Object, Array, String.prototype, Array.prototype, Object.prototype].forEach(Object.freeze);
-${modules}({ ${[...variables.keys()]} })`);
-  const { values, tables } = knownValues(variables, natives, others);
-  const { start, end, sourceFile: [, source] } = variables.get('charCodeAt') ?? { sourceFile: [] };
-  if (source?.slice(start, end) === CHAR_CODE_AT) values.charCodeAt = charCodeAt;
-  const code = [...functions].map(functionOf).join('');
-  const used = new Set([...variables.keys(), ...[...functions.values()].flatMap(nodesIn).map(({ name }) => name)]);
-  for (const name of [undefined, ...functions.keys(), ...LANGUAGE]) used.delete(name);
-  return {
-    code,
-    names: [...functions.keys()],
-    natives,
-    tables,
-    values: Object.fromEntries([...used].map((name) => [name, values[name]]))
-  };
+    if (names.includes(name) || LANGUAGE.includes(name)) refuse(node);
+  const undeclared = new Set(inits.flatMap(namesIn).filter((name) => !declared.has(name) && !LANGUAGE.includes(name)));
+  const code = [...Array.from(undeclared, (name) => [name]), ...declared].map(declarationOf).join('');
+  return { code: `'use strict';\n$.functions = { ${names} };\n${code}`, others };
 }

@@ -98,21 +98,15 @@ const check = (limit) => `(set-option :rlimit ${limit})
 (check-sat-using (then simplify propagate-values solve-eqs smt))
 (set-option :rlimit 0)`;
 
-// A value to try where z3 finds none: the least, the greatest, or one of any size. They are the same in each run.
-let state = 62n;
-function draw({ term, low = -power(130), high = power(130) }) {
-  state = (state * 6364136223846793005n + 1442695040888963407n) % power(64);
-  const any = low + ((state ** 3n >> 60n) % power(3n * (state >> 58n))) % (high - low + 1n);
-  return `(assert (= ${term} ${literal([low, high, any, any][(state >> 40n) % 4n])}))`;
+// A value to try where z3 finds none: the least, the greatest, or one of any size.
+function draw({ term, low = -power(130), high = power(130) }, seed) {
+  const any = low + 5n ** BigInt(seed % 61) % (high - low + 1n);
+  return `(assert (= ${term} ${literal([low, high, any, any][seed % 4])}))`;
 }
 
 class Solver {
   z3 = spawn('z3', ['-in']);
   results = createInterface({ input: this.z3.stdout })[Symbol.asyncIterator]();
-
-  // A z3 that was stopped is written to in vain.
-  constructor() { this.z3.stdin.on('error', () => {}); }
-  stop() { this.z3.kill('SIGKILL'); }
 
   // All that z3 prints for commands.
   async ask(...commands) {
@@ -129,7 +123,8 @@ class Solver {
   async refute(script, term, inputs, limit) {
     const result = await this.ask(...script, '(push)', `(assert (not ${term}))`, check(limit));
     for (let i = 0; i < 20 && result === 'unknown'; i++) {
-      if (await this.ask('(push)', ...inputs.map(draw), check(100_000)) === 'sat') return 'sat';
+      const values = inputs.map((input, j) => draw(input, 7 * i + 11 * j));
+      if (await this.ask('(push)', ...values, check(100_000)) === 'sat') return 'sat';
       await this.ask('(pop)');
     }
     return result;
@@ -142,36 +137,35 @@ class Solver {
       if (line.input) inputs.push(line.input);
       else if (!line.goal) script.push(line);
       else {
+        path.open = line.goal;
         const result = await this.refute(script.splice(0), line.term, inputs, 3_000_000);
-        if (result !== 'unsat') return this.note(path, line.goal, result === 'sat' ? inputs : []);
+        if (result === 'sat') path.example = path.show?.(await this.valuesOf(inputs));
+        if (result !== 'unsat') return;
         script.push('(pop)', `(assert ${line.term})`);
         path.passed++;
       }
     }
+    path.open = undefined;
     path.isPossible = await this.refute(script, 'false', inputs, 300_000) === 'sat';
   }
 
-  async note(path, goal, inputs) {
-    path.open = goal;
-    if (inputs.length === 0) return;
+  // What z3 has found for the inputs.
+  async valuesOf(inputs) {
     const found = await this.ask(`(get-value (${inputs.map(({ term }) => term).join(' ')}))`);
-    const values = new Map(Array.from(
-      found.matchAll(/\((\w+) (\d+|\(- \d+\))\)/g), ([, term, value]) => [term, BigInt(value.replace(/[( )]/g, ''))]));
-    path.example = path.show?.(({ term, low = 0n }) => values.get(term) ?? low);
+    const values = Array.from(found.matchAll(/ \(?(-? ?\d+)\)/g), ([, value]) => BigInt(value.replace(' ', '')));
+    return (input) => values[inputs.indexOf(input)] ?? input.low ?? 0n;
   }
 }
 
-// Asks z3, for each processor about one path at a time, until there is enough.
-export async function solve(paths, isEnough = () => false) {
-  const queue = paths.values(), solvers = cpus().map(() => new Solver());
-  const stop = () => solvers.forEach((solver) => solver.stop());
-  let isOver = false;
-  await Promise.all(solvers.map(async (solver) => {
+// Asks z3, for each processor about one path at a time.
+export async function solve(paths, report = () => {}) {
+  const queue = paths.values();
+  await Promise.all(cpus().map(async () => {
+    const solver = new Solver();
     for (const path of queue) {
       await solver.solve(path);
-      isOver ||= isEnough(path);
-      if (isOver) return stop();
+      report(path);
     }
+    solver.z3.stdin.end();
   }));
-  stop();
 }

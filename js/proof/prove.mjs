@@ -61,7 +61,7 @@ function splits(m, path, count, number) {
 
 // The number of any words, which an example gives to a function by a UUID.
 function numberOfWords(m, path, show) {
-  const words = m.fill('words');
+  const words = m.open('words', false);
   path.show = (value) => show(`encodeUuid('${total(words, power(32), value).toString(16).padStart(32, '0')}')`);
   return sum(words, power(32));
 }
@@ -155,64 +155,69 @@ prove('digitOf', ({ digitOf }, m, path) => {
 
 for (let count = 1; count <= 22; count++)
   prove(`stringOfGroups: ${count} characters`, ({ stringOfGroups }, m, path) => {
-    path.lines.push('(declare-fun code (Int) Int)');
-    const codeOf = ({ term }) => {
-      path.assume(range(`(code ${term})`, 0n, 127n));
-      return `(code ${term})`;
+    path.lines.push('(declare-fun pair (Int) Int)');
+    const lookup = ({ term }) => {
+      path.assume(range(`(pair ${term})`, 0n, power(16) - 1n));
+      return integer(`(pair ${term})`, 0n, power(16) - 1n);
     };
-    const split = (v, divisor) => [...path.divide(v, divisor)].reverse();
     m.open('codes');
-    const groups = m.fill('groups');
+    const groups = m.open('groups', false);
     groups.forEach((group, i) => groups[i] = path.input(0n, GROUP - 1n));
     path.show = (value) => {
       const number = total(groups, GROUP, value);
       return `[encodeFixed(${number % 62n ** BigInt(count)}n, ${count}), encodeKey(${number % 62n ** 21n}n)]`;
     };
-    const digits = groups.flatMap((group) => split(group, 62n ** 2n)).flatMap((pair) => split(pair, 62n));
-    const pairs = Object.assign(arrayOf(Object.assign([], { bits: 16 }), 16), { length: 62 ** 2 });
-    pairs.lookup = (index) => {
-      const [low, high] = split(index, 62n);
-      return integer(path.define(`(+ ${codeOf(high)} (* 256 ${codeOf(low)}))`), 0n, power(16) - 1n);
-    };
+    // Least significant first. The high byte of a pair is the code of its low digit.
+    const codes = groups.flatMap((group) => [...path.divide(group, 62n ** 2n)].reverse())
+                    .flatMap((pair) => path.divide(lookup(pair), 256n));
+    const pairs = Object.assign(arrayOf([], 16), { length: 62 ** 2, lookup });
     const { units } = stringOfGroups(count, pairs);
     path.prove('its length', `${units.length === count}`);
-    units.forEach(
-      (unit, i) => path.prove('the code of a digit', equal(termOf(m, unit), codeOf(digits[count - 1 - i]))));
+    units.forEach((unit, i) => path.prove('the code of a digit', equal(termOf(m, unit), codes[count - 1 - i].term)));
   });
 
 // ---- UUIDs
 
 const HYPHENS = [8, 13, 18, 23];
 
-// Code units, with the values of their hexadecimal digits, or -1.
+// Code units, with the values of their hexadecimal digits, or -2**16.
 function hexUnits(path, length) {
   const units = list(length, () => path.input(0n, 65535n));
   path.show = (value) => `encodeUuid(${stringOf(units, value)})`;
   for (const unit of units) {
-    const [digit, upper, lower] = [[48n, 57n], [65n, 70n], [97n, 102n]].map((ends) => range(unit.term, ...ends));
-    const [a, b, c] = [48, 55, 87].map((less) => `(- ${unit.term} ${less})`);
-    unit.hex = { term: path.define(`(ite ${digit} ${a} (ite ${upper} ${b} (ite ${lower} ${c} (- 1))))`) };
+    const value = [[48n, 57n, 48], [65n, 70n, 55], [97n, 102n, 87]].reduce(
+      (others, [low, high, less]) => `(ite ${range(unit.term, low, high)} (- ${unit.term} ${less}) ${others})`,
+      '(- 65536)');
+    unit.hex = integer(path.define(value), -power(16), 15n);
   }
   return units;
 }
 
 const areHex = (digits) => all(digits.map(({ term }) => `(<= 0 ${term})`));
+const hexIndex = (m, unit) => m.call('', Math.min, undefined, unit, 128);
 
-// What readHex returns for four digits: their value, or a negative number.
-function isHex(term, units) {
-  const digits = units.map(({ hex }) => hex).reverse();
-  const isValue = implies(areHex(digits), equal(term, sum(digits, 16n)));
-  return [range(term, -power(31), power(16) - 1n), equal(`(<= 0 ${term})`, areHex(digits)), isValue];
+prove('HEX_VALUES', (functions, m, path) => {
+  const [unit] = hexUnits(path, 1);
+  path.show = (value) => `encodeUuid('FFF' + ${stringOf([unit], value)} + '${'0'.repeat(28)}')`;
+  list(128, (code) => code).find((code) => path.decide(equal(unit.term, code)));
+  const value = m.read(['HEX_VALUES', ''], m.values.HEX_VALUES, hexIndex(m, unit));
+  path.prove('the value of a digit, or -2**16', equal(termOf(m, value), unit.hex.term));
+});
+
+// The table, of these units.
+function useHexValues(m, units) {
+  m.values.HEX_VALUES.lookup = (index) => units.find((unit) => hexIndex(m, unit).term === index.term)?.hex ?? m.fail();
 }
 
 for (let start = 0; start <= 41; start++)
   prove(`readHex: from ${start}`, ({ readHex }, m, path) => {
     const units = hexUnits(path, start + 4);
-    const digits = units.slice(start);
-    path.show = (value) => `encodeUuid(${stringOf(digits, value)} + '${'0'.repeat(28)}')`;
-    const string = Object.assign(textOf(units), { length: path.unknown(BigInt(start + 4), 45n) });
-    for (const term of isHex(termOf(m, readHex(string, start)), digits))
-      path.prove('the value of four digits, or a negative number', term);
+    path.show = (value) => `encodeUuid(${stringOf(units.slice(start), value)} + '${'0'.repeat(28)}')`;
+    useHexValues(m, units);
+    const term = termOf(m, readHex(textOf(units), start));
+    const digits = units.slice(start).map(({ hex }) => hex).reverse();
+    path.prove('it is negative exactly if one is no digit', equal(`(<= 0 ${term})`, areHex(digits)));
+    path.prove('the value of four digits', implies(areHex(digits), equal(term, sum(digits, 16n))));
   });
 
 // A unit is a character in lowercase or uppercase.
@@ -223,12 +228,7 @@ for (let length = 0; length <= 45; length++)
   prove(`readUuidString: ${length} characters`, ({ readUuidString }, m, path) => {
     const words = m.open('words');
     const units = hexUnits(path, length);
-    m.stubs.readHex = ({ units }, start) => {
-      const digits = start >= 0 && start <= 41 ? units.slice(start, start + 4) : [];
-      const v = digits.length === 4 ? path.unknown(-power(31), power(16) - 1n) : m.fail();
-      isHex(v.term, digits).forEach((term) => path.assume(term));
-      return v;
-    };
+    useHexValues(m, units);
     const isRead = termOf(m, readUuidString(textOf(units)));
     const [start, end] = length > 38 ? ['urn:uuid:', ''] : [34, 38].includes(length) ? ['{', '}'] : ['', ''];
     const others = new Map([...start, ...end].map((c, i) => [i < start.length ? i : length - 1, c]));
@@ -262,17 +262,20 @@ prove('uuidOfWords', ({ uuidOfWords }, m, path) => {
 
 // ---- Alphabets, choices and ranges
 
+// A module that changes what it shares with others fails here.
+[Math, Number, String, Object, Array, String.prototype, Array.prototype, Object.prototype].forEach(Object.freeze);
+const { Alphabet } = await import(`${folder}/index.js`);
 prove('Alphabet', (functions, m, path) => {
-  const { standard, alternative } = modules.natives.Alphabet;
   const swapped = DIGITS.replace(/[a-z]/gi, (c) => (c < 'a' ? c.toLowerCase() : c.toUpperCase()));
-  path.prove('the standard one', `${standard.characters === DIGITS}`);
-  path.prove('the alternative one', `${alternative.characters === swapped}`);
+  path.prove('the standard one', `${Alphabet.standard.characters === DIGITS}`);
+  path.prove('the alternative one', `${Alphabet.alternative.characters === swapped}`);
 });
 
 // The codes of any alphabet, and one that it does not have.
 function alphabetOf(m, path) {
   const [other, ...codes] = list(63, (i) => path.input(0n, i === 0 ? 128n : 127n));
-  m.assumeDistinct([other, ...codes]);
+  m.distinct = [other, ...codes].map(({ term }) => term);
+  path.assume(`(distinct ${m.distinct.join(' ')})`);
   return [codes, (value) => `new Alphabet(${stringOf(codes, value)})`, other];
 }
 
@@ -308,74 +311,67 @@ for (const [type, most, ...bounds] of TYPES)
     path.isError = not(isValid);
     const count = path.unknown(0n, 22n);
     path.assume(equal(equal(0, count.term), path.isError));
-    m.stubs[type === 'bigint' ? 'splitBigInt' : 'splitInteger'] = (given) => given === number ? count : m.fail();
+    m.stubs.splitBigInt = (given) => given === number && type === 'bigint' ? count : m.fail();
+    m.stubs.splitInteger = (given) => {
+      path.prove('splitInteger is for integers from 0 to 2**53 - 1', isValid);
+      return given === number && type === 'number' ? count : m.fail();
+    };
     path.prove('it returns the count of digits', `${splitNumber(number) === count}`);
     path.prove('it throws an error for numbers out of range', isValid);
   });
 
-// A prefix of 0 to 22 units, the number of its digits, and whether all are digits: what is proved of the functions that read
-// it, over the standard alphabet.
-function prefixOf(m, path) {
-  const [length, isAll, digits] = [path.input(0n, 22n), path.input(0n, 1n), path.input(0n, 62n ** 22n - 1n)];
-  path.assume(either(list(23, (i) => all([equal(length.term, i), `(< ${digits.term} ${62n ** BigInt(i)})`]))));
-  const show = (value) => {
-    const digitAt = (i) => DIGITS[value(digits) / 62n ** BigInt(i) % 62n];
-    const text = list(Number(value(length)), digitAt).reverse().join('');
-    return `'${value(isAll) ? text : text.replace(/.$/, '-')}'`;
-  };
-  const areDigits = equal(1, isAll.term);
-  const prefix = Object.assign(textOf([]), { length, digits, areDigits, show });
-  let used;
-  const checkGiven = (text, start, end) =>
-    (text === prefix && start === 0 && end === length && used === m.values.standard) || m.fail();
-  m.stubs.use = (alphabet) => used = alphabet;
-  m.stubs.readDigits = (...given) =>
-    checkGiven(...given) && new Unknown({ type: 'boolean', term: all([areDigits, `(<= ${digits.term} ${MOST})`]) });
-  m.stubs.indexOfInvalid = (...given) => {
-    const index = checkGiven(...given) && path.unknown(0n, 22n);
-    path.assume(all([`(<= ${index.term} ${length.term})`, equal(equal(index.term, length.term), areDigits)]));
-    return index;
-  };
-  m.stubs.bigIntOfWords = () => integer(digits.term, 0n, digits.high, 'bigint');
-  return prefix;
-}
-
-// Whether the string of this width has the prefix: its number is that of the prefix, before `others` more digits.
-function hasPrefix({ term }, width, { length, digits }) {
-  const others = `(- ${width.term} ${length.term})`;
+// Whether the string of this width has a prefix: its number is that of the prefix, before `others` more digits.
+function hasPrefix(number, width, length, digits) {
+  const others = `(- ${width} ${length})`;
   const forms = list(22, (i) => {
-    const [count, least] = [62n ** BigInt(i), `(* ${62n ** BigInt(i)} ${digits.term})`];
-    return all([equal(others, i), `(<= ${least} ${term})`, `(< ${term} (+ ${least} ${count}))`]);
+    const [count, least] = [62n ** BigInt(i), `(* ${62n ** BigInt(i)} ${digits})`];
+    return all([equal(others, i), `(<= ${least} ${number})`, `(< ${number} (+ ${least} ${count}))`]);
   });
-  return all([`(> ${width.term} 0)`, either([`(and (>= ${others} 22) (= 0 ${digits.term}))`, ...forms])]);
+  return all([`(> ${width} 0)`, either([`(and (>= ${others} 22) (= 0 ${digits}))`, ...forms])]);
 }
 
-for (const name of ['prefixRange', 'keyRange'])
-  prove(name, (functions, m, path) => {
-    const prefix = prefixOf(m, path);
-    const widths = name === 'keyRange' ? [] : [path.input(0n, MOST_OF_NUMBERS)];
-    path.show = (value) => `${name}(${[prefix.show(value), ...widths.map(value)]})`;
-    path.isError = not(prefix.areDigits);
-    const result = functions[name](prefix, ...widths);
-    path.prove('it throws an error if a character is invalid', prefix.areDigits);
-    const number = path.input(0n, MOST);
+// Of the functions that read the prefix, the number of its digits and whether all are digits are what is proved of them.
+for (let length = 0; length <= 22; length++)
+  prove(`prefixRange: ${length} units`, ({ prefixRange }, m, path) => {
+    const [isAll, digits] = [path.input(0n, 1n), path.input(0n, 62n ** BigInt(length) - 1n, 'bigint')];
+    const [width, number] = [path.input(0n, MOST_OF_NUMBERS), path.input(0n, MOST)];
+    path.show = (value) => {
+      const text = list(length, (i) => DIGITS[value(digits) / 62n ** BigInt(i) % 62n]).reverse().join('');
+      return `prefixRange('${value(isAll) ? text : text.replace(/.$/, '-')}', ${value(width)})`;
+    };
+    const [prefix, areDigits] = [Object.assign(textOf([]), { length }), equal(1, isAll.term)];
+    path.isError = not(areDigits);
+    const isRead = all([areDigits, `(<= ${digits.term} ${MOST})`]);
+    const index = path.unknown(0n, BigInt(length));
+    path.assume(equal(equal(index.term, length), areDigits));
+    let used;
+    m.stubs.use = (alphabet) => used = alphabet;
+    const give = (v) => (text, start, end) =>
+      text === prefix && start === 0 && end === length && used === m.values.standard ? v : m.fail();
+    m.stubs.readDigits = give(new Unknown({ type: 'boolean', term: isRead }));
+    m.stubs.indexOfInvalid = give(index);
+    m.stubs.bigIntOfWords = () => digits;
+    const result = prefixRange(prefix, width);
+    path.prove('it throws an error if a character is invalid', areDigits);
     const [first, last] = (result ?? []).map((end) => termOf(m, end, 'bigint'));
     const isIn = result === null ? 'false' : `(<= ${first} ${number.term} ${last})`;
-    const [width = constant(22n)] = widths;
-    path.prove('the numbers of this width that have the prefix', equal(isIn, hasPrefix(number, width, prefix)));
+    const isExpected = hasPrefix(number.term, width.term, length, digits.term);
+    path.prove('the numbers of this width that have the prefix', equal(isIn, isExpected));
     if (result) path.prove('both ends are numbers', `(<= 0 ${first} ${last} ${MOST})`);
   });
 
-prove('keyBounds', ({ keyBounds }, m, path) => {
-  const isNone = path.decide(equal(1, path.input(0n, 1n).term));
-  path.show = () => `keyBounds('${isNone ? 8 : 0}')`;
-  const [prefix, ...ends] = list(3, () => path.unknown(0n, MOST));
-  m.stubs.keyRange = (text) => text !== prefix ? m.fail() : isNone ? null : ends;
-  m.stubs.encodeKey = (number) => Object.assign(textOf([]), { number });
-  const keys = keyBounds(prefix);
-  const isRight = isNone ? keys === null : keys.length === 2 && ends.every((end, i) => keys[i].number === end);
-  path.prove('the keys of both ends, or null', `${isRight}`);
-});
+for (const name of ['keyRange', 'keyBounds'])
+  prove(name, (functions, m, path) => {
+    const isNone = path.decide(equal(1, path.input(0n, 1n).term));
+    path.show = () => `${name}('${isNone ? 8 : 0}')`;
+    const [prefix, ...ends] = list(3, () => path.unknown(0n, MOST));
+    m.stubs.prefixRange = (text, width) => text !== prefix || width !== 22 ? m.fail() : isNone ? null : ends;
+    m.stubs.encodeKey = (number) => Object.assign(textOf([]), { number });
+    const result = functions[name](prefix);
+    const numbers = name === 'keyRange' ? result : result?.map(({ number }) => number);
+    const isRight = isNone ? result === null : numbers.length === 2 && ends.every((end, i) => numbers[i] === end);
+    path.prove('both ends for the prefix of a key, or null', `${isRight}`);
+  });
 
 prove('encodeKey', ({ encodeKey }, m, path) => {
   const number = path.input(0n, MOST, 'bigint');
@@ -389,10 +385,14 @@ prove('encodeKey', ({ encodeKey }, m, path) => {
 
 // ---- The results
 
-let passed = 0, failed = 0, done = 0;
+let passed = 0, failed = 0;
 function report(line) {
   failed++;
   console.log(line);
+}
+function end() {
+  console.log(`${passed} passed, ${failed} failed`);
+  process.exit(Number(failed > 0 || passed === 0));
 }
 const statements = readFileSync(new URL('README.md', import.meta.url), 'utf8').match(/## What is proved\n[^#]*/)[0];
 const namesOf = (names) => [...new Set(names)].sort().join(', ');
@@ -402,14 +402,12 @@ if (named !== proved) report(`README.md names ${named}; proved are ${proved}`);
 // Most mistakes are seen on a short path.
 paths.sort((x, y) => x.lines.length - y.lines.length);
 await solve(paths, ({ name, passed: count, open, example }) => {
-  if (++done % 100 === 0) console.error(`${done} of ${paths.length} paths`);
   passed += count;
   const shown = example ? `; in Node: Object.assign(globalThis, await import('${folder}/index.js')), ${example}` : '';
   if (open) report(`${name}: not proved: ${open}${shown}`);
-  return example;
+  if (example) end();
 });
 for (const name of new Set(paths.map(({ name }) => name)))
   if (failed === 0 && !paths.some((path) => path.name === name && path.isPossible))
     report(`${name}: not proved: a path that is possible`);
-console.log(`${passed} passed, ${failed} failed`);
-process.exitCode = Number(failed > 0 || passed === 0);
+end();

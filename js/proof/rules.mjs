@@ -11,19 +11,14 @@ const EXACT = power(53);
 const least = (...values) => values.reduce((x, y) => (y < x ? y : x));
 const greatest = (...values) => values.reduce((x, y) => (y > x ? y : x));
 const not = (v) => (isUnknown(v) ? boolean(`(not ${v.term})`) : !v);
-const boolean = (term) => (/^(true|false)$/.test(term) ? term === 'true' : new Unknown({ type: 'boolean', term }));
+const boolean = (term) => new Unknown({ type: 'boolean', term });
 export const textOf = (units) => new Unknown({type: 'text', units, length: units.length});
 const isUnknown = (v) => v instanceof Unknown;
 const isBig = ({ type }) => type === 'bigint';
 const isFinite = (...values) => values.every(({ infinite }) => infinite === 'false');
+const isPlain = (v) => /^(number|bigint|string)$/.test(typeof v);
+const isListOf = (isElement, v) => Array.isArray(v) && v.every(isElement);
 const native = (operator) => new Function('a', 'b', `return a ${operator} b`);
-
-// One of two Numbers.
-function choose(m, condition, a, b) {
-  const either = (x, y) => (x === y ? x : `(ite ${condition} ${x} ${y})`);
-  const term = m.path.define(either(a.term, b.term));
-  return integer(term, least(a.low, b.low), greatest(a.high, b.high), 'number', either(a.infinite, b.infinite));
-}
 
 // ---- Operators. The operands are two Numbers or two BigInts, of which one is unknown.
 
@@ -58,8 +53,8 @@ function divide(m, operator, a, b) {
 // ToInt32, ToUint32 and the like: the integer part modulo 2**bits, which is 0 for Infinity.
 function modulo(m, v, bits, isSigned = false) {
   const [, { term, low, high }] = m.path.divide(v, power(bits), isSigned ? -power(bits - 1) : 0n);
-  const rest = integer(term, low, high, isBig(v) ? 'bigint' : 'number');
-  return isFinite(v) ? rest : choose(m, v.infinite, constant(0n), rest);
+  const rest = isFinite(v) ? term : m.path.define(`(ite ${v.infinite} 0 ${term})`);
+  return integer(rest, least(0n, low), greatest(0n, high), isBig(v) ? 'bigint' : 'number');
 }
 
 // By a constant 2**k - 1 below 2**31: modulo 2**k, which divides 2**32.
@@ -68,46 +63,23 @@ function bitwiseAnd(m, operator, a, b) {
   return !isBig(a) && /^1{1,31}$/.test(mask) ? modulo(m, a, mask.length) : m.fail();
 }
 
-// Of a multiple of 2**k and a number from 0 to 2**k - 1, which is a goal: the sum.
-function bitwiseOr(m, operator, a, b) {
-  const [{ zeros = 0 }, { zeros: others = 0 }] = [a, b];
-  if (zeros < others) return bitwiseOr(m, operator, b, a);
-  const [x, y] = isBig(a) ? [a, b] : [modulo(m, a, 32, true), modulo(m, b, 32, true)];
-  const low = m.within('the operands of | have no common bit', y, 0n, power(zeros) - 1n);
-  return Object.assign(arithmetic(m, '+', x, low), { zeros: others });
-}
-
-const shiftCount = (m, a, b) =>
-  (isConstant(b) && b.low >= 0n && b.low < (isBig(a) ? 999n : 32n) ? Number(b.low) : m.fail());
-
-// A Number keeps its lowest 32 - k bits, the highest of which is its sign now, before k zeros.
-function shiftLeft(m, operator, a, b) {
-  const zeros = shiftCount(m, a, b);
-  const kept = isBig(a) ? a : modulo(m, a, 32 - zeros, true);
-  return Object.assign(arithmetic(m, '*', kept, constant(power(zeros), a.type)), { zeros });
-}
-
-// The floor of the quotient by 2**k: of a BigInt, of a signed integer of 32 bits, or with >>> of an unsigned one.
+// By a constant: the floor of the quotient by 2**k, of a BigInt, of a signed integer of 32 bits, or with >>> of an unsigned one.
 function shiftRight(m, operator, a, b) {
-  if (isBig(a) && operator === '>>>') m.fail();
-  return m.path.divide(isBig(a) ? a : modulo(m, a, 32, operator === '>>'), power(shiftCount(m, a, b)))[0];
+  const isKnown = isConstant(b) && b.low >= 0n && b.low < (isBig(a) ? 999n : 32n) && (!isBig(a) || operator === '>>');
+  const v = isBig(a) ? a : modulo(m, a, 32, operator === '>>');
+  return isKnown ? m.path.divide(v, power(b.low))[0] : m.fail();
 }
 
-// Infinity is above all numbers. The bounds may decide it.
+// Infinity is above all numbers.
 const orInfinity = (v) => (isFinite(v) ? v.term : `(ite ${v.infinite} ${EXACT + 1n} ${v.term})`);
-function compare(m, operator, a, b) {
-  const holds = native(operator);
-  const isKnown = isFinite(a, b) && a.low !== undefined && b.low !== undefined &&
-    holds(a.high, b.low) === holds(a.low, b.high) && (operator !== '===' || a.high < b.low || b.high < a.low);
-  const smt = operator === '===' ? '=' : operator;
-  return boolean(isKnown ? `${holds(a.low, b.high)}` : `(${smt} ${orInfinity(a)} ${orInfinity(b)})`);
-}
+const compare = (m, operator, a, b) => boolean(`(${operator} ${orInfinity(a)} ${orInfinity(b)})`);
+const equal = (m, operator, a, b) => compare(m, '=', a, b);
 
 const OPERATORS = new Map([
-  ['+', arithmetic], ['-', subtract], ['*', multiply], ['/', divide], ['&', bitwiseAnd], ['|', bitwiseOr],
-  ['<<', shiftLeft], ['>>', shiftRight], ['>>>', shiftRight], ['<', compare], ['<=', compare], ['===', compare],
+  ['+', arithmetic], ['-', subtract], ['*', multiply], ['/', divide], ['&', bitwiseAnd], ['>>', shiftRight],
+  ['>>>', shiftRight], ['<', compare], ['<=', compare], ['===', equal],
   ['>', (m, operator, a, b) => compare(m, '<', b, a)], ['>=', (m, operator, a, b) => compare(m, '<=', b, a)],
-  ['!==', (m, operator, a, b) => not(compare(m, '===', a, b))]
+  ['!==', (m, operator, a, b) => not(equal(m, '', a, b))]
 ]);
 
 // ---- Functions of the language, of unknown values
@@ -116,11 +88,11 @@ const isNumeric = ({ type }) => /^(number|quotient)$/.test(type);
 const isNumber = ({ type }) => type === 'number';
 const isFiniteNumber = (v) => isNumber(v) && isFinite(v);
 
-function minimum(m, a, b, ...others) {
-  const most = m.known(b);
-  if (others.length > 0 || !isFiniteNumber(a) || !isFiniteNumber(most) || !isConstant(most)) m.fail();
-  const v = choose(m, `(<= ${a.term} ${most.term})`, a, most);
-  return Object.assign(v, { high: most.low });
+// Of a number and a constant.
+function minimum(m, a, given, ...others) {
+  const b = m.known(given);
+  if (others.length > 0 || !isFiniteNumber(a) || !isConstant(b)) m.fail();
+  return integer(m.path.define(`(ite (<= ${a.term} ${b.term}) ${a.term} ${b.term})`), least(a.low, b.low), b.high);
 }
 
 // Of a Number that is no such integer, a double, nothing else is known.
@@ -150,20 +122,35 @@ function isLowercase(m, { units }, string) {
 }
 
 export const charCodeAt = (string, i) => string.charCodeAt(i);
+const refuse = (m) => m.fail();
 const CALLS = new Map([
   [Math.floor, floor], [Math.min, minimum], [Number.isSafeInteger, isSafeInteger], [String.fromCharCode, fromCharCode],
-  [charCodeAt, unitAt]
+  [charCodeAt, unitAt], [Array, refuse]
 ]);
-const METHODS = new Map(Object.entries({ charCodeAt: unitAt, fill, slice, toLowerCase }));
+const LIST_METHODS = [[].fill, [].push, [].reduce];
+const METHODS = new Map(Object.entries({ charCodeAt: unitAt, slice, toLowerCase }));
 
 // ---- Typed arrays. Those of a buffer share its cells, which are as wide as the elements of the narrowest of them. What a
 // function creates has a list of stores instead, each with its index, once one of them is not known.
 
 export const arrayOf = (cells, bits, kind = 'Uint', length = cells.length) =>
   new Unknown({type: 'array', cells, bits, kind, length});
-const isIndex = (index, { length }) => Number.isInteger(index) && index >= 0 && index < length;
 
-function unknownIndex(m, { length }, index) {
+// Of a length or a list of numbers, or over a buffer. What two arrays share is not known, and both are unsigned.
+function createArray(m, Type, given) {
+  const bits = 8 * Type.BYTES_PER_ELEMENT;
+  const kind = Type.name.replace(/\d+Array$/, '');
+  if (given.type !== 'buffer')
+    return arrayOf(Object.assign([...new Type(given)], { bits, kind, areOpen: true, stores: [] }), bits, kind);
+  const { cells, bytes } = given;
+  if (cells.kind && !/^(Big)?Uint(Big)?Uint$/.test(cells.kind + kind)) m.fail();
+  if (!(cells.bits <= bits)) Object.assign(cells, { length: 8 * bytes / bits, bits, kind }).fill(undefined);
+  return arrayOf(cells, bits, kind, 8 * bytes / bits);
+}
+
+const bufferOf = (cells, bytes) => new Unknown({ type: 'buffer', cells, bytes });
+
+function indexIn(m, { length }, index) {
   const i = m.known(index);
   if (!isFiniteNumber(i)) m.fail();
   return m.within('an index in the array', i, 0n, BigInt(length) - 1n);
@@ -172,16 +159,15 @@ function unknownIndex(m, { length }, index) {
 // An index that is not known is for a table, or an array with a `lookup`.
 function readElement(m, array, index) {
   const { cells, bits, kind, lookup } = array;
-  if (isUnknown(index) || lookup || cells.stores?.length > 0) {
-    const i = unknownIndex(m, array, index);
-    if (lookup) return lookup(i);
+  const i = indexIn(m, array, index);
+  if (lookup) return lookup(i);
+  if (isUnknown(index) || cells.stores?.length > 0) {
     if (bits !== cells.bits) m.fail();
     // Of the stores from the last one on, the first whose index may be this one has to have just this one.
-    const isOther = ([j]) => [i, j].every(({ term }) => m.distinct.has(term)) && i.term !== j.term;
+    const isOther = ([j]) => [i, j].every(({ term }) => m.distinct.includes(term)) && i.term !== j.term;
     const [j, v] = cells.stores?.findLast((stored) => !isOther(stored)) ?? [i, fromTable(m, cells, i)];
     return j.term === i.term ? v : m.fail();
   }
-  if (!isIndex(index, array)) m.fail();
   const width = bits / cells.bits;
   if (width === 1) return cells[index] ?? m.fail();
   const parts = cells.slice(index * width, index * width + width)
@@ -190,51 +176,30 @@ function readElement(m, array, index) {
     m.path.define(`(+ ${parts.join(' ')})`), 0n, power(bits) - 1n, kind === 'BigUint' ? 'bigint' : 'number');
 }
 
-// One piece for each run of values that are equal, or of which each is one more than the one before.
+// One piece for each run of values that are equal.
 function fromTable(m, cells, index) {
   if (cells.every((cell) => cell === cells[0])) return m.known(cells[0]);
-  if (!cells.every(Number.isInteger)) m.fail();
-  const values = cells.map(BigInt);
-  let term = '0';
-  for (let end = values.length - 1, i = end; end >= 0; end = --i) {
-    const step = end > 0 && values[end] - values[end - 1] === 1n ? 1n : 0n;
-    while (i > 0 && values[i] - values[i - 1] === step) i--;
-    const piece = step ? `(+ ${index.term} ${literal(values[end] - BigInt(end))})` : literal(values[end]);
-    term = `(ite (<= ${index.term} ${end}) ${piece} ${term})`;
-  }
-  return integer(m.path.define(term), least(0n, ...values), greatest(0n, ...values));
-}
-
-// Each element of a list is a path of its own.
-function readList(m, list, index) {
-  const i = unknownIndex(m, list, index);
-  const last = Math.min(Number(i.high), list.length - 1);
-  return list.find((v, j) => j >= i.low && (j === last || m.path.decide(`(= ${i.term} ${j})`)));
+  const values = cells.map((cell) => Number.isInteger(cell) ? BigInt(cell) : m.fail());
+  const term = values.reduceRight(
+    (others, v, i) => (v === values[i + 1] ? others : `(ite (<= ${index.term} ${i}) ${literal(v)} ${others})`), '0');
+  return integer(m.path.define(term), least(...values), greatest(...values));
 }
 
 // An element keeps a value modulo 2**bits, or if it is a double the value.
 function storeElement(m, array, index, v) {
   const { cells, bits, kind } = array;
   const holds = { Float: isNumber, Int: isNumeric, Uint: isNumeric, BigUint: isBig }[kind];
-  if (!cells.areOpen || !holds?.(v)) m.fail();
+  if (!cells?.areOpen || !holds?.(v)) m.fail();
   let rest = kind === 'Float' ? v : modulo(m, v, bits, kind === 'Int');
-  if (cells.stores && (isUnknown(index) || cells.stores.length > 0))
-    return cells.stores.push([unknownIndex(m, array, index), rest]);
-  if (!isIndex(index, array)) m.fail();
+  const at = indexIn(m, array, index);
+  if (cells.stores && (isUnknown(index) || cells.stores.length > 0)) return cells.stores.push([at, rest]);
+  if (isUnknown(index)) m.fail();
   const width = bits / cells.bits;
   for (let i = index * width; i < (index + 1) * width; i++) {
     const [higher, { term, low, high }] = m.path.divide(rest, power(cells.bits));
     cells[i] = width === 1 ? rest : integer(term, low, high);
     rest = higher;
   }
-}
-
-// Writes a value to all elements.
-function fill(m, array, ...values) {
-  if (values.length !== 1) m.fail();
-  const v = m.known(values[0]);
-  for (let i = 0; i < array.length; i++) storeElement(m, array, i, v);
-  return array;
 }
 
 // ---- The rules of forms
@@ -249,8 +214,7 @@ const RULES = {
     if (x === '' && operator === '+' && y.type === 'text') return y;
     if (x?.type === 'lowercase' && operator === '===' && typeof y === 'string') return isLowercase(m, x, y);
     const [a, b] = [m.known(x), m.known(y)];
-    const types =
-      [a, b].map(({ type }) => (type === 'quotient' && /^([&|]|<<|>>>?)$/.test(operator) ? 'number' : type));
+    const types = [a, b].map(({ type }) => (type === 'quotient' && /^(&|>>>?)$/.test(operator) ? 'number' : type));
     const isKnown = types[0] === types[1] && /^(number|bigint)$/.test(types[0]) && OPERATORS.has(operator);
     return isKnown ? OPERATORS.get(operator)(m, operator, a, b) : m.fail();
   },
@@ -270,25 +234,32 @@ const RULES = {
   and: (m, left, right) => (RULES.holds(m, left) ? right() : !isUnknown(left) && left),
   or: (m, left, right) => (RULES.holds(m, left) ? isUnknown(left) || left : right()),
 
+  // Each element of a list is a path of its own.
   read(m, object, index) {
     if (isUnknown(object) && object.type === 'array') return readElement(m, object, index);
-    if (Array.isArray(object) && isUnknown(index)) return readList(m, object, index);
+    if (Array.isArray(object) && isUnknown(index)) {
+      const { term } = indexIn(m, object, index);
+      return object.slice(0, -1).find((v, i) => m.path.decide(`(= ${term} ${i})`)) ?? object.at(-1);
+    }
     return isUnknown(object) || isUnknown(index) ? m.fail() : object[index] ?? m.fail();
   },
 
   store(m, array, index, value) {
-    if (array?.type !== 'array') m.fail();
     storeElement(m, array, index, m.known(value));
     return value;
   },
 
-  member: (m, object, name) => (name === 'length' || object === String ? object[name] : undefined) ?? m.fail(),
+  member(m, object, name) {
+    if (name !== 'buffer') return (name === 'length' || object === String ? object[name] : undefined) ?? m.fail();
+    const { type, cells, bits, length } = object;
+    return type === 'array' && !cells.areOpen ? bufferOf(cells, length * bits / 8) : m.fail();
+  },
 
-  create(m, Type, ...values) {
-    if (![Float64Array, Uint16Array].includes(Type) || values.length !== 1 || !Number.isInteger(values[0])) m.fail();
-    const array = m.copy(new Type(values[0]));
-    Object.assign(array.cells, { areOpen: true, stores: [] });
-    return array;
+  create(m, Type, given, ...others) {
+    const isKnown =
+      Number.isInteger(given) || (Type !== ArrayBuffer && (given?.type === 'buffer' || isListOf(isPlain, given)));
+    if (!isKnown || others.length > 0) m.fail();
+    return Type === ArrayBuffer ? bufferOf([], given) : createArray(m, Type, given);
   },
 
   // A function of the modules, one with a rule, or one of Node with known values.
@@ -298,7 +269,7 @@ const RULES = {
       const result = values.length === f.length ? m.stubs[f.name](...values) : undefined;
       return result === undefined ? m.fail() : result;
     }
-    if (isOwn || (f === Array.prototype.push && Array.isArray(self))) return f.apply(self, values);
+    if (isOwn || (LIST_METHODS.includes(f) && Array.isArray(self))) return f.apply(self, values);
     if (!CALLS.has(f)) m.fail();
     return values.some(isUnknown) ? CALLS.get(f)(m, ...values) : f(...values);
   },
@@ -317,51 +288,39 @@ export class Machine {
   unused = new Unknown({});
   steps = 0;
   stubs = { __proto__: null };
-  distinct = new Set();
-  buffers = new Map();
+  distinct = [];
+  values = {};
+  charCodeAt = charCodeAt;
 
-  constructor({ code, values, names, tables }, path) {
-    this.path = path;
+  constructor({ code, others }, path) {
+    Object.assign(this, { path, others });
     for (const [name, rule] of Object.entries(RULES))
       this[name] = (at, ...given) => rule(Object.assign(this, { at }), ...given);
-    const widths = ([, x], [, y]) => (x?.BYTES_PER_ELEMENT ?? 0) - (y?.BYTES_PER_ELEMENT ?? 0);
-    this.values = Object.fromEntries(Object.entries(values).sort(widths).map(([name, v]) => [name, this.copy(v)]));
-    // What is no table is not known, unless a proof opens it.
-    for (const [name, { cells }] of Object.entries(this.values)) !tables.has(name) && cells?.fill(undefined);
-    const create = new Function(
-      '$', 'values', `'use strict';\nconst { ${Object.keys(this.values)} } = values;\n${code}return { ${names} };`);
-    this.functions = create(this, this.values);
+    new Function('$', code)(this);
   }
 
-  // The elements of a typed array. The narrowest one of a buffer comes first.
-  copy(value) {
-    if (!ArrayBuffer.isView(value)) return value === undefined ? new Unknown({}) : value;
-    const bits = value.BYTES_PER_ELEMENT * 8;
-    const kind = value.constructor.name.replace(/\d+Array$/, '');
-    const found = this.buffers.get(value.buffer);
-    const areUnsigned = /^(Big)?Uint$/.test(kind) && found?.kind === 'Uint';
-    if (value.byteOffset !== 0 || (found && !areUnsigned)) return new Unknown({});
-    const cells = found ?? Object.assign([...value], { bits, kind });
-    this.buffers.set(value.buffer, cells);
-    return arrayOf(cells, bits, kind, value.length);
+  // What a module computes is known if nothing may change it later: a number, a BigInt, a string, or a table, which is an array
+  // of such that is only read. Of other typed arrays, nothing else is known, unless a proof opens them.
+  value(name, init) {
+    let v;
+    try {
+      v = init();
+    } catch { v = undefined; }
+    const isTable = !this.others.has(name);
+    if (v?.type === 'array') {
+      Object.assign(v.cells, { areOpen: false, stores: undefined });
+      if (!isTable) v.cells.fill(undefined);
+    } else if (!isPlain(v) && v !== charCodeAt && !(isTable && isListOf(isPlain, v))) v = new Unknown({});
+    return this.values[name] = v;
   }
 
-  // Lets functions read an array, which has any elements, or write it too.
-  fill(name, areOpen = false) {
-    const { cells, bits, kind } = this.values[name];
-    cells.areOpen = areOpen;
-    const low = kind === 'Int' ? -power(bits - 1) : 0n;
-    cells.forEach((cell, i) => cells[i] = this.path.input(low, low + power(bits) - 1n));
+  // Lets functions read an array, which has any elements, and write it if it is for results.
+  open(name, isForResults = true) {
+    const { cells } = this.values[name];
+    cells.areOpen = isForResults;
+    const low = cells.kind === 'Int' ? -power(cells.bits - 1) : 0n;
+    for (let i = 0; i < cells.length; i++) cells[i] = this.path.input(low, low + power(cells.bits) - 1n);
     return cells;
-  }
-
-  open(name) { return this.fill(name, true); }
-
-  // Assumes that no two values are the same.
-  assumeDistinct(values) {
-    const terms = values.map(({ term }) => term);
-    this.path.assume(`(distinct ${terms.join(' ')})`);
-    this.distinct = new Set(terms);
   }
 
   fail([place, text] = this.at) { throw new Error(`${place}: no rule for \`${text}\``); }

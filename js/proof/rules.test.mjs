@@ -9,7 +9,8 @@ import {Machine, textOf} from './rules.mjs';
 
 const ARRAYS =
   `const halves = new BigUint64Array(2), words = new Uint32Array(halves.buffer), groups = new Int32Array(2);
-const table = Int8Array.from({ length: 129 }, (_, i) => i === 100 ? 5 : i < 48 ? -1 : i < 58 ? i - 48 : i < 90 ? i - 61 : 7);`;
+const times = (count, v) => Array(count).fill(v);
+const table = new Int32Array([5, ...times(47, -1), 0, 1, 2, 3, 4, 5, 6, 7, 8, 9, -3, -2, -1, 0, ...times(38, 7), 5, ...times(28, 7)]);`;
 // The same ones in each run, so that a failure comes again.
 let state = 62n;
 function random(bits) {
@@ -31,20 +32,17 @@ const isDividend = (x) => x >= 0 && (x <= 2 ** 53 || x === Infinity);
 const OF_NUMBERS = [
   [(x, y) => isExact(integerOf(x) + integerOf(y)), 'x + y'], [(x) => isExact(integerOf(x) * 62n), 'x * 62'],
   [(x, y) => isFinite(y) && isExact(integerOf(x) - integerOf(y)), 'x - y'], [(x) => isFinite(x), 'Math.min(x, 128)'],
-  [isDividend, 'Math.floor(x / 62)', '(x / 4096) | 0', '(x / 3844) & 0xffff', 'words[0] = x / 65536; return words[0]'],
+  [isDividend, 'Math.floor(x / 62)', '(x / 4096) >> 0', '(x / 3844) & 0xffff', 'words[0] = x / 65536; return words[0]'],
   [(x) => x >= 0 && x < 3, '[5, y, 62][x]'],
-  [(x) => x >= 0 && x < 129, 'table[x]', 'const t = new Float64Array(129).fill(Infinity); t[x] = y; return t[x]'],
-  [(x, y) => (y | 0) >= 0 && (y | 0) < 256, '(x << 8) | y', 'y | (x << 8)'], [(x, y) => (y | 0) === 0, 'x | y'],
-  [(x) => (x & 0xff0000) === 0, '(x << 24) | ((y & 255) << 16) | (x & 0xffffff)'],
+  [(x) => x >= 0 && x < 129, 'table[x]', 'const t = new Float64Array(times(129, Infinity)); t[x] = y; return t[x]'],
   [(x) => isFinite(x) && x >= 0, 'table[Math.min(x, 128)]'],
   [
-    () => true, 'Math.floor(x)', 'Number.isSafeInteger(x)', '(x & 1) === 1', 'x & 255', 'x & 0x7fffffff', 'x | 0',
-    '(x << 8) | (y & 255)', '(y & 0xffff) | (x << 16)', '(x << 24) | ((y & 255) << 16) | 515', 'x !== 61', 'x === y',
-    'x << 0', 'x << 12', 'x << 31', 'x >> 5', 'x >>> 0', 'x >>> 21', 'x < y', 'x <= y', 'x > y', 'x >= y', '!(x < 61)',
+    () => true, 'Math.floor(x)', 'Number.isSafeInteger(x)', '(x & 1) === 1', 'x & 255', 'x & 0x7fffffff', 'x >> 0',
+    'x !== 61', 'x === y', 'x >> 5', 'x >>> 0', 'x >>> 21', 'x < y', 'x <= y', 'x > y', 'x >= y', '!(x < 61)',
     'x < 61 && y < 61', 'x < 61 || y < 61', 'x < 61 ? 5 : 6', 'String.fromCharCode(x, 45).charCodeAt(0)',
     'String.fromCharCode(45, 46, x).slice(1).charCodeAt(1)', 'String.fromCharCode(x, 65581).charCodeAt(1)',
-    'const a = x >>> 0; return x | 0', 'const a = x & 1; return x & 255', 'words[1] = x; return words[1]',
-    'groups[1] = x; return groups[1]', 'const t = new Uint16Array(9).fill(y); t[1] = x; return t[1] + t[2]',
+    'const a = x >>> 0; return x >> 0', 'const a = x & 1; return x & 255', 'words[1] = x; return words[1]',
+    'groups[1] = x; return groups[1]', 'const t = new Uint16Array(9); t[2] = y; t[1] = x; return t[1] + t[2]',
     'words[1] = x; words[0] = y; return halves[0]'
   ],
   [
@@ -53,18 +51,21 @@ const OF_NUMBERS = [
     'x & -1', 'x & 14', 'x & 0xffffffff', 'x >> 32', 'x + 1n', 'x + undefined', 'x + 0.5', 'x % 62', '`${x}`',
     'String.fromCharCode(x).charCodeAt(1)', "String.fromCharCode('45', x).charCodeAt(0)",
     'String.fromCharCode(45n, x).charCodeAt(1)', 'x < 61 ? -0 : -0',
-    'const t = new Float64Array(9); t[x] = 5; return t[y]', 'new Uint16Array(2, x)', 'new Uint16Array(9).fill(x, 1)[0]',
-    'x / 62 < y', 'x > -Infinity', 'new Uint8Array(5)[0]', 'words[x]', 'words[4] = x', 'table[0] = x', 'halves[0] = x',
-    'words[0] = 5n', 'x == y', 'Math.abs(x)', '[x].includes(y)', 'x ?? y', 'x ** 2'
+    'const t = new Float64Array(9); t[x] = 5; return t[y]', 'new Uint16Array(2, x)', 'new Uint16Array(9).fill(x)[0]',
+    'new Uint16Array([x])[0]', 'Array(x)[0]', 'x | y', 'x << 5', 'x / 62 < y', 'x > -Infinity', 'new Int8Array(5)[0]',
+    'words[x]', 'words[4] = x', 'table[0] = x', 'halves[0] = x', 'words[0] = 5n', 'x == y', 'Math.abs(x)',
+    '[x].includes(y)', 'x ?? y', 'x ** 2'
   ]
 ];
 const OF_BIGINTS = [
   [
-    () => true, 'x + y', 'x - y', 'x * 5n', 'x >> 64n', 'x << 64n', 'x < y', 'x <= y', 'x > y', 'x >= y', 'x === y',
-    'halves[1] = x; return halves[1]', 'Number.isSafeInteger(x)', 'halves[1] = x; return words[3]',
-    'halves[0] = x; return (y << 64n) | halves[0]'
+    () => true, 'x + y', 'x - y', 'x * 5n', 'x >> 64n', 'x < y', 'x <= y', 'x > y', 'x >= y', 'x === y',
+    'halves[1] = x; return halves[1]', 'Number.isSafeInteger(x)', 'halves[1] = x; return words[3]'
   ],
-  [() => false, 'x * y', 'x / 5n', 'x >>> 1n', 'x & 1n', 'x + 1', 'words[0] = x', 'halves[2] = x', 'Math.floor(x)']
+  [
+    () => false, 'x * y', 'x / 5n', 'x >>> 1n', 'x & 1n', 'x << 1n', 'x | 1n', 'x + 1', 'words[0] = x', 'halves[2] = x',
+    'Math.floor(x)'
+  ]
 ];
 // Two that are not ASCII have a lowercase form that is, or that begins with such.
 const strings = ['', '{', 'ab', 'xab', 'aB', '}{', 'ij', 'IJ', '\u0130j', '\u0130', 'i', 'ijj', 'i\u0307', 'i\u212a'];
@@ -100,7 +101,7 @@ const REFUSED = [
   ['', 'return g(); function g() { return 1; }'], ['', 'return arguments[0];'], ['', 'return x.toString();'],
   ['', "return words.hasOwnProperty('0');"], ['', 'label: return 1;'], ['', 'return (1, x);'],
   ['const list = [5];', 'return list.length;'], ['', 'return typeof Buffer;'],
-  ["const has = typeof Buffer === 'function';", 'return 1;'],
+  ["const has = typeof Buffer === 'function';", 'return has ? 1 : 2;'],
   ['const has = !!globalThis.Buffer;', 'if (has) return 1; return 2;'], ['const now = Date.now();', 'return now < 5;'],
   ["const is = 'fromHex' in Uint8Array ? 1 : 0;", 'return is;'],
   ["const is = Array['fromAsync'] ? 1 : 0;", 'return is;'], ['const zone = new Date(70, 0) - 0;', 'return zone;'],
@@ -118,7 +119,9 @@ const REFUSED = [
   ['const g = () => 1; g.state = 5;', 'return g.state;'],
   ['const g = (process) => process;', "return process['argv'].length;"],
   ["const charCodeAt = ''.codePointAt.call.bind(''.codePointAt);", "return charCodeAt('A', 0);"],
-  ['const upper = new Uint32Array(halves.buffer, 4);', 'return upper[0];']
+  ['const upper = new Uint32Array(halves.buffer, 4);', 'return upper[0];'],
+  ['', 'const t = new Uint16Array(4), u = new Uint32Array(t.buffer); t[x & 3] = 5; u[0] = 65543; return t[0];'],
+  ['const t = new Uint8Array(1);', 't[0] = 5; return t[0];']
 ];
 // What writes a table later, or may.
 const WRITES = [
@@ -208,7 +211,7 @@ for (const body of BODIES) test(body, () => compare(body, pairs(numbers.filter((
 test('a path ends at its first open goal, with an example, and an impossible one is found', async () => {
   const paths = explore((path) => {
     const x = path.input(0n, 5n);
-    path.show = (value) => `f(${value(x)})`;
+    path.show = (value) => `${path.open}: f(${value(x)})`;
     path.prove('known', '(= 5 5)');
     if (path.decide(`(< ${x.term} 5)`)) path.prove('unknown', `(< ${x.term} 4)`);
     // 33 is the sum of three cubes, which z3 does not find.
@@ -217,7 +220,8 @@ test('a path ends at its first open goal, with an example, and an impossible one
   });
   const impossible = explore((path) => path.assume('false')), possible = explore((path) => path.input(0n, 5n));
   await solve([...paths, ...impossible, ...possible]);
-  assert.deepEqual(paths.map(({ open, example }) => [open, example]), [['unknown', 'f(4)'], ['cubes', undefined]]);
+  assert.deepEqual(
+    paths.map(({ open, example }) => [open, example]), [['unknown', 'unknown: f(4)'], ['cubes', undefined]]);
   assert.deepEqual([impossible, possible].map(([{ isPossible }]) => isPossible), [false, true]);
 });
 test('an open array can have all elements', async () => {
@@ -231,10 +235,10 @@ test('an open array can have all elements', async () => {
   assert.deepEqual(paths.map((path) => path.open), ends.map(() => 'open'));
 });
 test('an index is another one only if both are distinct', () => explore((path) => {
-  const body = 'const t = new Float64Array(9).fill(Infinity); t[x] = 5; t[y] = 6; return t[z];';
+  const body = 'const t = new Float64Array(Array(9).fill(Infinity)); t[x] = 5; t[y] = 6; return t[z];';
   const m = new Machine(read([['test.js', `const f = (x, y, z) => { ${body} };`]]), path);
   const [x, y, z, other] = [1, 2, 3, 4].map(() => path.unknown(0n, 8n));
-  m.assumeDistinct([x, y, z]);
+  m.distinct = [x, y, z].map(({ term }) => term);
   assert.deepEqual([x, y, z].map((v) => m.functions.f(x, y, v)).map(({ term, infinite }) => `${term} ${infinite}`),
     ['5 false', '6 false', '0 true']);
   assert.throws(() => m.functions.f(x, y, other), /no rule/);
@@ -261,5 +265,4 @@ test('a name twice, and a function or a name of the language that is assigned to
   assert.throws(() => read([['a.js', 'const g = 1;'], ['b.js', 'const g = 2;']]), /^Error: b\.js:1/);
   for (const assignment of ['f = 5', '[f] = [5]', 'const g = () => f++', 'for (f of [5]);', 'Number.isInteger = 5'])
     assert.throws(() => read([['a.js', `function f() {}\n${assignment};`]]), /^Error: a\.js:2: no rule/);
-  assert.throws(() => read([['a.js', 'Object.assign(Math, { floor: 5 });']]), /read only/);
 });

@@ -385,7 +385,7 @@ prove('encodeKey', ({ encodeKey }, m, path) => {
 
 // ---- The results
 
-let passed = 0, failed = 0;
+let passed = 0, failed = 0, done = 0;
 function report(line) {
   failed++;
   console.log(line);
@@ -402,6 +402,7 @@ if (named !== proved) report(`README.md names ${named}; proved are ${proved}`);
 // Most mistakes are seen on a short path.
 paths.sort((x, y) => x.lines.length - y.lines.length);
 await solve(paths, ({ name, passed: count, open, example }) => {
+  if (++done % 100 === 0) console.error(`${done} of ${paths.length} paths`);
   passed += count;
   const shown = example ? `; in Node: Object.assign(globalThis, await import('${folder}/index.js')), ${example}` : '';
   if (open) report(`${name}: not proved: ${open}${shown}`);

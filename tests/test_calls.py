@@ -29,8 +29,7 @@ PAGES = {
 CALL = r"(?<![\w.:/$'])(?:base62\.|columns\.|b\.)?([A-Za-z]\w*)\(|\b([A-Z]\w+Error)\b"
 # What languages and other libraries have.
 OTHERS = """
-    BigInt CAST DECIMAL Decimal Err Ok Some String UUID constructor decimal128 derive fixed_size_binary fmt from_str main print printf
-    require to_numpy to_pylist validate
+    BigInt CAST DECIMAL Ok Some String UUID constructor decimal128 derive fixed_size_binary require to_numpy to_pylist validate
 """.split()
 
 

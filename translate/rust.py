@@ -109,8 +109,8 @@ CLAUSE = [(r"length (\w+) \. (now|old)", r"\1 . len ( )"), (r"(\d+) \^ (\d+)", r
           ("≤", "<="), ("≡", "=="), ("MAX_DIGITS", "crate :: MAX_DIGITS"), (r"^0 < (\w+) \. len", r"! \1 . is_empty")]
 
 # In comments: examples, and what happens if an allocation fails.
-COMMENTS = [(r"(base62::encode(?!\w*_io)\w*\(.*\))\?;", r"\1;"), (r"println!\(rt; (.*)\)\?;", r"println!(\1);"),
-            (r"\((rt; |rt\.alloc\(\)(, |(?=\))))", "("), (r"String::from_str\((.*)\)\?;", r"String::from(\1);"),
+COMMENTS = [(r"(base62::encode(?!\w*_io)\w*\(.*\))\?;", r"\1;"), (r"\((rt; |rt\.alloc\(\)(, |(?=\))))", "("),
+            (r"String::from_str\((.*)\)\?;", r"String::from(\1);"),
             (r"Some\(\((\d+), (\d+)\)\)", r"Some(\1..=\2)"), (r"\?;", ".unwrap();"),
             (r"(?s)let characters = ([^;]*;)(.*)let alphabet = (\w+::Alphabet)(::from_static)\(characters\);(.*)&alphabet\b",
              r"const CHARACTERS: [u8; 62] = \1\2const OWN: \3 = \3\4(CHARACTERS);\5&OWN"),
@@ -141,7 +141,7 @@ RATTLE = re.compile(r"(?<!\S)(?:requires(?! !)|ensures|prove|unsafe|AllocError|W
 # Of hand-written files: the attributes, whose literals are features;
 NAME = re.compile(r'"(?:alloc|std|checked)"')
 FEATURE = r'(?:not \( )?feature = "\w+"(?: \))?'
-ATTRIBUTE = re.compile(rf"# \[ (?:inline(?: \( always \))?|must_use|track_caller|macro_use|test|"
+ATTRIBUTE = re.compile(rf"# \[ (?:inline(?: \( always \))?|track_caller|test|"
                        rf"should_panic \( expected = {HIDDEN} \)|derive \( [A-Z]\w+(?: , [A-Z]\w+)* \)|cfg \( "
                        rf"(?:test|debug_assertions|{FEATURE}|all \( {FEATURE} , {FEATURE} \)) \)) \] ")
 # the macros, and the words before a ! that is no macro's;

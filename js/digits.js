@@ -129,7 +129,7 @@ function joinLongParts(high, middle, low) {
 
 export function bigIntOfWords() {
   if (words[2] === 0 && words[3] === 0) return halves[0];
-  return halves[1] * TWO_TO_64 + halves[0];
+  return (halves[1] << 64n) | halves[0];
 }
 
 // Returns -1 if the number is above 2**53 - 1.

@@ -70,14 +70,26 @@ function shiftRight(m, operator, a, b) {
   return isKnown ? m.path.divide(v, power(b.low))[0] : m.fail();
 }
 
+// Of a BigInt, by a constant.
+function shiftLeft(m, operator, a, b) {
+  if (!isBig(a) || !isConstant(b) || b.low < 0n || b.low > 999n) m.fail();
+  return Object.assign(arithmetic(m, '*', a, constant(power(b.low), 'bigint')), { zeros: b.low });
+}
+
+// Of a BigInt that is shifted by k, and one from 0 to 2**k - 1, which is a goal: the sum.
+function bitwiseOr(m, operator, a, b) {
+  if (!isBig(a) || a.zeros === undefined) m.fail();
+  return arithmetic(m, '+', a, m.within('the operands of | have no common bit', b, 0n, power(a.zeros) - 1n));
+}
+
 // Infinity is above all numbers.
 const orInfinity = (v) => (isFinite(v) ? v.term : `(ite ${v.infinite} ${EXACT + 1n} ${v.term})`);
 const compare = (m, operator, a, b) => boolean(`(${operator} ${orInfinity(a)} ${orInfinity(b)})`);
 const equal = (m, operator, a, b) => compare(m, '=', a, b);
 
 const OPERATORS = new Map([
-  ['+', arithmetic], ['-', subtract], ['*', multiply], ['/', divide], ['&', bitwiseAnd], ['>>', shiftRight],
-  ['>>>', shiftRight], ['<', compare], ['<=', compare], ['===', equal],
+  ['+', arithmetic], ['-', subtract], ['*', multiply], ['/', divide], ['&', bitwiseAnd], ['|', bitwiseOr],
+  ['<<', shiftLeft], ['>>', shiftRight], ['>>>', shiftRight], ['<', compare], ['<=', compare], ['===', equal],
   ['>', (m, operator, a, b) => compare(m, '<', b, a)], ['>=', (m, operator, a, b) => compare(m, '<=', b, a)],
   ['!==', (m, operator, a, b) => not(equal(m, '', a, b))]
 ]);

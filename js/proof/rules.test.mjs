@@ -59,12 +59,14 @@ const OF_NUMBERS = [
 ];
 const OF_BIGINTS = [
   [
-    () => true, 'x + y', 'x - y', 'x * 5n', 'x >> 64n', 'x < y', 'x <= y', 'x > y', 'x >= y', 'x === y',
-    'halves[1] = x; return halves[1]', 'Number.isSafeInteger(x)', 'halves[1] = x; return words[3]'
+    () => true, 'x + y', 'x - y', 'x * 5n', 'x >> 64n', 'x << 64n', 'x < y', 'x <= y', 'x > y', 'x >= y', 'x === y',
+    'halves[1] = x; return halves[1]', 'Number.isSafeInteger(x)', 'halves[1] = x; return words[3]',
+    'halves[0] = x; return (y << 64n) | halves[0]'
   ],
+  [(x, y) => y >= 0n && y < 128n, '(x << 7n) | y'],
   [
-    () => false, 'x * y', 'x / 5n', 'x >>> 1n', 'x & 1n', 'x << 1n', 'x | 1n', 'x + 1', 'words[0] = x', 'halves[2] = x',
-    'Math.floor(x)'
+    () => false, 'x * y', 'x / 5n', 'x >>> 1n', 'x & 1n', 'x << -1n', 'x << y', 'x | 1n', '1n | (x << 1n)', 'x + 1',
+    'words[0] = x', 'halves[2] = x', 'Math.floor(x)'
   ]
 ];
 // Two that are not ASCII have a lowercase form that is, or that begins with such.

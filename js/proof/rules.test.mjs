@@ -210,21 +210,25 @@ for (const [module, body] of REFUSED)
 const branch = (path) => '0123456789'.replace(/./g, () => path.decide('true'));
 test('too many paths are an error', () => assert.throws(() => explore(branch), /1000 paths/));
 for (const body of BODIES) test(body, () => compare(body, pairs(numbers.filter((n) => isFinite(n))), () => true));
-test('a path ends at its first open goal, with an example, and an impossible one is found', async () => {
+// z3 does not find the three.
+function isSumOfCubes(path) {
+  const cubes = [path.unknown(), path.unknown(), path.unknown()].map(({ term }) => `(* ${term} ${term} ${term})`);
+  return `(= 33 (+ ${cubes.join(' ')}))`;
+}
+test('a path ends at its first open goal, with an example, and is possible if z3 finds values', async () => {
   const paths = explore((path) => {
     const x = path.input(0n, 5n);
     path.show = (value) => `${path.open}: f(${value(x)})`;
     path.prove('known', '(= 5 5)');
     if (path.decide(`(< ${x.term} 5)`)) path.prove('unknown', `(< ${x.term} 4)`);
-    // 33 is the sum of three cubes, which z3 does not find.
-    const cubes = [path.unknown(), path.unknown(), path.unknown()].map(({ term }) => `(* ${term} ${term} ${term})`);
-    path.prove('cubes', `(not (= 33 (+ ${cubes.join(' ')})))`);
+    path.prove('cubes', `(not ${isSumOfCubes(path)})`);
   });
-  const impossible = explore((path) => path.assume('false')), possible = explore((path) => path.input(0n, 5n));
-  await solve([...paths, ...impossible, ...possible]);
+  const others = ['false', isSumOfCubes, 'true'].map(
+    (term) => explore((path) => path.assume(typeof term === 'string' ? term : term(path)))[0]);
+  await solve([...paths, ...others]);
   assert.deepEqual(
     paths.map(({ open, example }) => [open, example]), [['unknown', 'unknown: f(4)'], ['cubes', undefined]]);
-  assert.deepEqual([impossible, possible].map(([{ isPossible }]) => isPossible), [false, true]);
+  assert.deepEqual(others.map(({ isPossible }) => isPossible), [false, false, true]);
 });
 test('an open array can have all elements', async () => {
   const modules = read([['test.js', `${ARRAYS} const f = () => groups[0] + words[0];`]]);
@@ -236,6 +240,11 @@ test('an open array can have all elements', async () => {
   await solve(paths);
   assert.deepEqual(paths.map((path) => path.open), ends.map(() => 'open'));
 });
+test('an array that is open for reading alone is not written', () => explore((path) => {
+  const m = new Machine(read([['test.js', `${ARRAYS} const f = () => { words[0] = 5; };`]]), path);
+  m.open('words', false);
+  assert.throws(() => m.functions.f(), /no rule/);
+}));
 test('an index is another one only if both are distinct', () => explore((path) => {
   const body = 'const t = new Float64Array(Array(9).fill(Infinity)); t[x] = 5; t[y] = 6; return t[z];';
   const m = new Machine(read([['test.js', `const f = (x, y, z) => { ${body} };`]]), path);

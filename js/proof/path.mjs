@@ -20,7 +20,7 @@ export const integer = (term, low, high, type = 'number', infinite = 'false') =>
 export const constant = (n, type) => integer(literal(n), n, n, type);
 export const isConstant = (v) => v.low !== undefined && v.low === v.high && v.infinite === 'false';
 
-export class Path {
+class Path {
   lines = ['(set-option :smt.arith.solver 2)'];
   passed = 0;
   decided = 0;

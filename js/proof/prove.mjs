@@ -5,7 +5,7 @@ import {resolve} from 'node:path';
 import {fileURLToPath} from 'node:url';
 
 import {read} from './forms.mjs';
-import {constant, explore, integer, power, range, solve, Unknown} from './path.mjs';
+import {explore, integer, power, range, solve, Unknown} from './path.mjs';
 import {arrayOf, Machine, textOf, THROWN} from './rules.mjs';
 
 const folder = resolve(process.argv[2] ?? fileURLToPath(new URL('..', import.meta.url)));
